@@ -1,0 +1,9 @@
+pub mod Check
+pub mod Bytes
+pub mod TableRules
+pub mod Examples
+pub mod Mixing
+pub mod Rounds
+pub mod Nibbles
+pub mod KeySteps
+pub mod VariantFacts

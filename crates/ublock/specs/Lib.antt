@@ -1,0 +1,5 @@
+pub mod Cipher
+pub mod Laws
+pub mod Tables
+pub mod Examples
+pub mod Variants
