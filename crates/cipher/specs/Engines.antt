@@ -24,7 +24,7 @@ engineAnswer (Ok x) = record { value = Some x; number = 0 }
 engineAnswer (Err RunLength) = record { value = None; number = 4 }
 
 abbrev pub engineFaultText : EngineFault → List ℕ
-engineFaultText RunLength = codes "the run is no multiple of the block length, or has more blocks than lanes"
+engineFaultText RunLength = codes "the run ends within a block, or has more blocks than lanes"
 
 -- the block lengths and lane counts that an engine may have
 pub record Shape (b w : ℕ) : Type 0 where

@@ -24,7 +24,7 @@ keyAnswer (Err NoVariant) = record { value = None; number = 1 }
 keyAnswer (Err KeyLength) = record { value = None; number = 2 }
 
 abbrev pub keyFaultText : KeyFault → List ℕ
-keyFaultText NoVariant = codes "there is no such variant, or none of this block length"
+keyFaultText NoVariant = codes "there is no such variant, or its blocks have another length"
 keyFaultText KeyLength = codes "the key is not as long as the variant's keys"
 
 -- for an engine of blocks of b bytes: 1 where there is no such variant or it has other blocks, then 2 for a key of
@@ -36,7 +36,7 @@ fillNumberOf b (Some v) n = cond (eqb (blockLength (parameters v .layout)) b) (c
 abbrev pub fillNumber : ℕ → ℕ → ℕ → ℕ
 fillNumber b number n = fillNumberOf b (numbered number) n
 
--- e means the cipher of the numbered variant under the key
+-- enc and dec are E and D of the numbered variant under the key
 abbrev pub MeansCipher : ℕ → List ℕ → (List ℕ → List ℕ) → (List ℕ → List ℕ) → Type 0
 MeansCipher number key enc dec =
     (v : Variant) → numbered number ≡ Some v → (x : List ℕ) → (enc x ≡ E (parameters v) key x) × (dec x ≡ D (parameters v) key x)

@@ -20,7 +20,7 @@ pub enum EngineFault {
 // Why an engine is not filled.
 #[derive(Clone, Copy, PartialEq, Eq, Debug)]
 pub enum KeyFault {
-    // no variant of this number, or none of this block length
+    // no variant of this number, or its blocks have another length
     NoVariant,
     // the key is not as long as the variant's
     KeyLength,
@@ -64,7 +64,7 @@ pub impl Display for EngineFault as EngineFaultDisplay {
     fn fmt<W: fmt::Write>(&self, f: &mut fmt::Formatter<W>) -> fmt::Result {
         match self {
             EngineFault::RunLength => f.write_str(
-                "the run is no multiple of the block length, or has more blocks than lanes",
+                "the run ends within a block, or has more blocks than lanes",
             ),
         }
     }
@@ -76,7 +76,7 @@ pub impl Display for KeyFault as KeyFaultDisplay {
     fn fmt<W: fmt::Write>(&self, f: &mut fmt::Formatter<W>) -> fmt::Result {
         match self {
             KeyFault::NoVariant => f.write_str(
-                "there is no such variant, or none of this block length",
+                "there is no such variant, or its blocks have another length",
             ),
             KeyFault::KeyLength => f.write_str("the key is not as long as the variant's keys"),
         }

@@ -23,7 +23,7 @@ use Rattle.std.specs.declared.result.Result.the-variants.{Ok}
 use Rattle.cipher.specs.Engines.{Ran}
 use Rattle.cipher.specs.Keys.{fillNumber, fillNumberOf, MeansCipher}
 use Rattle.words.specs.Halves.{Published}
-use Rattle.plain.specs.Plains.{Loaded, rowAt, rowKey, HoldRegisters, plainE, plainD}
+use Rattle.plain.specs.Plains.{Loaded, rowAt, rowKey, HoldRegisters, HoldRoundKeys, plainE, plainD}
 use Rattle.words.specs.Words.{word, words, bothHalves}
 use Rattle.words.specs.declared.row.Row.{Row}
 use Rattle.plain.proofs.Layouts.{fits-row, one-lane-shape}
@@ -136,17 +136,29 @@ filled-number b n v key e f h =
     let t = eq-eqb (length key) (keyLength (parameters v)) h in
     sym (ap (λ o. fillNumberOf b o (length key)) e ∙ rw (s, t))
 
-pub filled-means : (l : Layout) (count n : ℕ) (v w : Variant) (key bytes : List ℕ) (rows : List Row) → Published l → l .half ≡ count * 4
-    → numbered n ≡ Some v → parameters v .layout ≡ l → length key ≡ keyLength (parameters v) → w ≡ v → bytes ≡ padded key
+-- the rows hold the registers of the key, where they started from it
+held-by-key : (v w : Variant) (key bytes : List ℕ) (rows : List Row) → length key ≡ keyLength (parameters v) → w ≡ v → bytes ≡ padded key
     → HoldRegisters (parameters w) (take (keyLength (parameters w)) bytes) (parameters w .roundCount) rows
-    → MeansCipher n key (plainE l count rows v) (plainD l count rows v)
-filled-means l count n v w key bytes rows pub′ sized e same long is eb held u f x =
-    let is-v : v ≡ u = cc in
+    → HoldRegisters (parameters v) key (parameters v .roundCount) rows
+held-by-key v w key bytes rows long is eb held =
     let key-is : take (keyLength (parameters v)) bytes ≡ key = ap (take (keyLength (parameters v))) eb ∙ padded-front key (keyLength (parameters v)) long in
     let held-v = subst (λ z. HoldRegisters (parameters z) (take (keyLength (parameters z)) bytes) (parameters z .roundCount) rows) is held in
-    let held-key = subst (λ k. HoldRegisters (parameters v) k (parameters v .roundCount) rows) key-is held-v in
-    let m = means l count v key rows pub′ sized same held-key x in
-    (m .0 ∙ ap (λ z. E (parameters z) key x) is-v, m .1 ∙ ap (λ z. D (parameters z) key x) is-v)
+    subst (λ k. HoldRegisters (parameters v) k (parameters v .roundCount) rows) key-is held-v
+
+module _ (l : Layout) (count n : ℕ) (v w : Variant) (key bytes : List ℕ) (rows : List Row) (pub′ : Published l) (sized : l .half ≡ count * 4)
+    (e : numbered n ≡ Some v) (same : parameters v .layout ≡ l) (long : length key ≡ keyLength (parameters v)) (is : w ≡ v) (eb : bytes ≡ padded key)
+    (held : HoldRegisters (parameters w) (take (keyLength (parameters w)) bytes) (parameters w .roundCount) rows) where
+  pub filled-means : MeansCipher n key (plainE l count rows v) (plainD l count rows v)
+  filled-means u f x =
+      let is-v : v ≡ u = cc in
+      let m = means l count v key rows pub′ sized same (held-by-key v w key bytes rows long is eb held) x in
+      (m .0 ∙ ap (λ z. E (parameters z) key x) is-v, m .1 ∙ ap (λ z. D (parameters z) key x) is-v)
+
+  pub filled-keys : HoldRoundKeys count n key v rows
+  filled-keys u f =
+      let is-v : v ≡ u = cc in
+      subst (λ z. (v ≡ z) × ((j : ℕ) → j ≤ parameters z .roundCount → rowKey count rows j ≡ RK (parameters z) key j)) is-v
+      (refl, key-of-row l count v key rows pub′ sized same (held-by-key v w key bytes rows long is eb held))
 
 -- ---- a run of one block that is loaded, worked on and stored
 pub ran-loaded : (l : Layout) (count : ℕ) (f : List ℕ → List ℕ) (run after : List ℕ) (before-row after-row : Row) → Published l → l .half ≡ count * 4

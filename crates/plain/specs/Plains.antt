@@ -8,8 +8,8 @@ use Rattle.std.specs.declared.option.Option.{Option}
 use Rattle.std.specs.declared.option.Option.the-variants.{Some, None}
 use Rattle.std.specs.declared.result.Result.{Result}
 use Rattle.std.specs.declared.result.Result.the-variants.{Ok, Err}
-use Rattle.ublock.specs.Cipher.{Layout, Parameters, keyLength, register, encipher, decipher}
-use Rattle.ublock.specs.Variants.{parameters}
+use Rattle.ublock.specs.Cipher.{Layout, Parameters, keyLength, register, RK, encipher, decipher}
+use Rattle.ublock.specs.Variants.{parameters, numbered}
 use Rattle.ublock.specs.declared.variant.Variant.{Variant}
 use Rattle.schedule.specs.Registers.{padded}
 use Rattle.cipher.specs.Engines.{refused}
@@ -33,6 +33,11 @@ rowKey count rows j = bothHalves count (rowAt rows j)
 -- row j holds the register after j steps, up to the last round's
 abbrev pub HoldRegisters : Parameters → List ℕ → ℕ → List Row → Type 0
 HoldRegisters p key r rows = (j : ℕ) → j ≤ r → take (keyLength p) (words 8 0 (rowAt rows j)) ≡ register p key j
+
+-- an engine's variant is the numbered one, and its rows begin with that variant's round keys
+abbrev pub HoldRoundKeys : ℕ → ℕ → List ℕ → Variant → List Row → Type 0
+HoldRoundKeys count number key w rows =
+    (v : Variant) → numbered number ≡ Some v → (w ≡ v) × ((j : ℕ) → j ≤ parameters v .roundCount → rowKey count rows j ≡ RK (parameters v) key j)
 
 abbrev pub plainE : Layout → ℕ → List Row → Variant → List ℕ → List ℕ
 plainE layout count rows v x = encipher layout (rowKey count rows) (parameters v .roundCount) x

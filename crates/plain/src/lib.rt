@@ -1,13 +1,14 @@
 // The plain engine: one block at a time, nibbles substituted by table.
 ghost use mathlib.Core.Path.{_≡_};
-ghost use mathlib.Core.List.{List, _++_};
-ghost use Prim.Native.Nat.{ℕ, _≤_, min};
+ghost use mathlib.Core.List.{_++_};
+ghost use Prim.Native.Nat.{_≤_, min};
 ghost use lib.ListN.{length, take};
+ghost use Rattle.std.specs.Vec.{made};
 ghost use Rattle.ublock.specs.Cipher.{round, inverseRound, rounds, inverseRounds, blockLength, keyLength};
 ghost use Rattle.ublock.specs.Variants.{parameters};
 ghost use Rattle.cipher.specs.Engines.{Ran, engineAnswer};
 ghost use Rattle.cipher.specs.Keys.{Filled, keyAnswer};
-ghost use Rattle.plain.specs.Plains.{rowKey, plainE, plainD, HoldRegisters, Loaded};
+ghost use Rattle.plain.specs.Plains.{rowKey, plainE, plainD, HoldRegisters, HoldRoundKeys, Loaded};
 ghost use Rattle.words.specs.Words.{words, bothHalves};
 use cipher::engine::Engine;
 use cipher::engine::EngineFault;
@@ -20,7 +21,7 @@ use words::half::Half;
 use words::pieces::Pieces;
 use words::row::Row;
 
-// An engine of the variant, whose row j is round key j.
+// An engine of the variant; row j begins with round key j.
 #[derive(Clone, Copy)]
 pub struct Plain<H> {
     variant: Variant,
@@ -118,7 +119,7 @@ fn load<H: Half>(run: &[u8]) -> Result<Option<Row>, EngineFault>
     Ok(Some(Row::of(padded(run))))
 }
 
-// Writes the first bytes of a row over a run of at most so many.
+// Writes the first bytes of a row over a run of at most 32.
 fn store(row: Row, run: &mut [u8])
     requires { ⌜ length (now run) ≤ 32 ⌝ }
     ensures { λ _. ⌜ now (run .exit) ≡ take (length (now (run .entry))) (words 8 0 (row .pieces)) ⌝ }
@@ -145,7 +146,8 @@ fn round_keys(start: Register) -> [Row; 25]
 impl<H: Half + Copy> Plain<H> {
     // The engine of the variant of this number under the key.
     pub fn fill(variant: u32, key: &[u8]) -> Result<Plain<H>, KeyFault>
-        ensures { λ r. ⌜ Filled (blockLength (H·Half .layout)) (λ (e : Plain H). plainE (H·Half .layout) (H·Pieces .count) (e .rows) (e .variant)) (λ (e : Plain H). plainD (H·Half .layout) (H·Pieces .count) (e .rows) (e .variant)) variant (now (key .entry)) (keyAnswer r) ⌝ }
+        ensures cipher { λ r. ⌜ Filled (blockLength (H·Half .layout)) (λ (e : Plain H). plainE (H·Half .layout) (H·Pieces .count) (e .rows) (e .variant)) (λ (e : Plain H). plainD (H·Half .layout) (H·Pieces .count) (e .rows) (e .variant)) variant (now (key .entry)) (keyAnswer r) ⌝ }
+        ensures round_keys { λ r. ⌜ made r (λ (e : Plain H). HoldRoundKeys (H·Pieces .count) variant (now (key .entry)) (e .variant) (e .rows)) ⌝ }
     {
         let Some(variant) = Variant::numbered(variant) else {
             return Err(KeyFault::NoVariant);
@@ -163,7 +165,8 @@ impl<H: Half + Copy> Plain<H> {
         })
     }
 
-    // Replaces a block by what it is after its first rounds, so many or all of them, where no key is added after the last.
+    // Replaces a block by its state after the first `count` rounds, or after all where the variant has fewer; the last key
+    // is not added.
     pub fn state_after(&self, count: usize, run: &mut [u8]) -> Result<(), EngineFault>
         ensures { λ r. ⌜ Ran (blockLength (H·Half .layout)) 1 (rounds (H·Half .layout) (rowKey (H·Pieces .count) (now (self .entry) .rows)) (min count (parameters (now (self .entry) .variant) .roundCount))) (now (run .entry)) (now (run .exit)) (engineAnswer r) ⌝ }
     {

@@ -3,7 +3,7 @@ ghost use mathlib.Core.Path.{_≡_};
 ghost use Prim.Native.Nat.{ℕ, _+_, _*_, _/_, _%_, _<_, _≤_};
 ghost use lib.ListN.{length, getD, take};
 ghost use Rattle.std.specs.Options.{Cases as BySome};
-ghost use Rattle.ublock.specs.Cipher.{nibbles, paired, permute, keyStep, keyStepFrom, keyLength, be4, RC};
+ghost use Rattle.ublock.specs.Cipher.{nibbles, paired, permute, keyStep, keyStepFrom, keyLength, RC};
 ghost use Rattle.schedule.specs.Registers.{padded};
 ghost use Rattle.ublock.specs.Variants.{parameters};
 use ublock::tables::double;
@@ -11,7 +11,7 @@ use ublock::tables::round_constant;
 use ublock::tables::substitute;
 use ublock::variant::Variant;
 
-// The register of a variant's key schedule, as long as its key, with zeros after it.
+// The register of a variant's key schedule: as many bytes as its key has. `load` and `step` leave zeros after them.
 #[derive(Clone, Copy)]
 pub struct Register {
     pub variant: Variant,
@@ -32,7 +32,7 @@ impl Register {
         })
     }
 
-    // The register after one step more, where it has taken so many.
+    // The register after its next step, where `taken` steps came before.
     pub fn step(self, taken: usize) -> Register
         ensures variant { λ r. ⌜ r .variant ≡ self .variant ⌝ }
         ensures bytes { λ r. ⌜ r .bytes ≡ padded (keyStep (parameters (self .variant) .PK) (parameters (self .variant) .quarter) (getD RC taken 0) (take (keyLength (parameters (self .variant))) (self .bytes))) ⌝ }

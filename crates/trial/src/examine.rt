@@ -125,7 +125,7 @@ fn heading(rt: &LibcRuntime, number: u32, variant: Variant) -> Result<(), AnyErr
 }
 
 // Prints what the engine made of the example, and says whether all of it is as published.
-pub fn examine<H: Half + Copy>(
+pub(crate) fn examine<H: Half + Copy>(
     rt: &LibcRuntime,
     variant: Variant,
     example: &Example,

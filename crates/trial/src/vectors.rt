@@ -49,7 +49,7 @@ impl Example {
 }
 
 // All examples on standard input.
-pub fn read(rt: &LibcRuntime) -> Result<Vec<Example>, AnyError> {
+pub(crate) fn read(rt: &LibcRuntime) -> Result<Vec<Example>, AnyError> {
     let mut examples = Vec::new(rt.alloc());
     for line in BufReader::new(rt.stdin()).lines(rt.alloc()) {
         let line = line?;

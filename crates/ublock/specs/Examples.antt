@@ -1,6 +1,6 @@
 -- Worked examples: what the definitions give, beside what is published.
 use mathlib.Core.Path.{_≡_}
-use mathlib.Core.List.{List, [], _∷_, map}
+use mathlib.Core.List.{List, [], _∷_}
 use Prim.Native.Nat.{ℕ}
 use lib.Lanes.{Each1}
 use lib.ListN.{getD}

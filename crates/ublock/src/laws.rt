@@ -7,8 +7,9 @@ ghost use Rattle.ublock.specs.Examples.{examples, ExamplesHold};
 ghost use Rattle.ublock.specs.Laws.{RoundUndone, CipherPermutes, VariantPermutes};
 ghost use Rattle.ublock.specs.Tables.{LayoutsInvertible};
 
-// The two lengths of a block in bytes. At both, and at any other whose byte permutations have inverses, the round and
-// its inverse undo each other, and so do enciphering and deciphering; so each variant permutes its blocks under every key.
+// The two lengths of a block in bytes. In the layout of each, and in any other whose byte permutations have inverses, the
+// round and its inverse undo each other, and so do enciphering and deciphering; so each variant permutes its blocks under
+// every key.
 pub fn block_lengths() -> [usize; 2]
     ensures value { λ r. ⌜ r ≡ blockLength layout128 ∷ blockLength layout256 ∷ [] ⌝ }
     ensures layouts_invertible { λ _. ⌜ LayoutsInvertible ⌝ }

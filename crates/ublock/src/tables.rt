@@ -97,7 +97,7 @@ pub fn double(byte: u8) -> u8
     ((byte << 1) & 0xee) ^ ((byte >> 3) & 0x11) ^ ((byte >> 2) & 0x22)
 }
 
-// The constant of the key register's next step, where it has taken so many: RC_1 after none. There are 24; past them 0.
+// The constant that the key register's next step takes, after `taken` steps: RC_(taken + 1). There are 24; past them 0.
 pub fn round_constant(taken: usize) -> u32
     ensures value { λ r. ⌜ r ≡ getD RC taken 0 ⌝ }
     ensures rule { λ _. ⌜ ConstantsFromShiftRegister ⌝ }

@@ -54,7 +54,7 @@ impl Variant {
         }
     }
 
-    // Which nibble of the key register's first half each of its nibbles takes the place of: the permutation PK.
+    // The permutation PK of the nibbles of the key register's first half: place i takes nibble PK(i).
     pub fn nibble_permutation(self) -> &'static [u8]
         ensures value { λ r. ⌜ now r ≡ parameters self .PK ⌝ }
         ensures permutes { λ _. ⌜ PKsPermute ⌝ }

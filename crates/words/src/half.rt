@@ -1,10 +1,11 @@
-// The half of a block, in two widths: what differs between them is the byte permutations.
+// The half of a block, in two widths: what each is in a row, and its byte permutations.
 ghost use mathlib.Core.Path.{_≡_};
-ghost use mathlib.Core.List.{List, _++_};
-ghost use Prim.Native.Nat.{ℕ, _*_};
+ghost use lib.ListN.{drop};
+ghost use Prim.Native.Nat.{_+_, _-_, _*_};
 ghost use Rattle.ublock.specs.Cipher.{Layout, blockLength, layout128, layout256, permute};
 ghost use Rattle.words.specs.Halves.{Published};
-ghost use Rattle.words.specs.Words.{word, words};
+ghost use Rattle.std.specs.shelf.Lists.{replicate};
+ghost use Rattle.words.specs.Words.{words};
 use crate::pieces::Pair;
 use crate::pieces::PairPieces;
 use crate::pieces::PiecePieces;
@@ -49,7 +50,8 @@ pub trait Half: Pieces {
     // A row with the two halves at its front, and zeros after them.
     fn join(left: Self, right: Self) -> Row
         ensures left { λ r. ⌜ words (Self·Pieces .count) 0 (r .pieces) ≡ Self·Pieces .bytes left ⌝ }
-        ensures right { λ r. ⌜ words (Self·Pieces .count) (Self·Pieces .count) (r .pieces) ≡ Self·Pieces .bytes right ⌝ };
+        ensures right { λ r. ⌜ words (Self·Pieces .count) (Self·Pieces .count) (r .pieces) ≡ Self·Pieces .bytes right ⌝ }
+        ensures rest { λ r. ⌜ drop (Self·Pieces .count + Self·Pieces .count) (r .pieces) ≡ replicate (8 - (Self·Pieces .count + Self·Pieces .count)) 0 ⌝ };
 }
 
 // Half of a block of 16 bytes.

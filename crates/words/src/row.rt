@@ -1,7 +1,7 @@
-// A row of 32 bytes in eight words: a block or a round key, with zeros after it where it is shorter.
+// A row of 32 bytes in eight words: a block, or the key register that a round key is the front of.
 ghost use mathlib.Core.Path.{_≡_};
-ghost use Prim.Native.Nat.{ℕ, _+_, _*_, _<_, _≤_};
-ghost use lib.ListN.{length, getD, take, drop};
+ghost use Prim.Native.Nat.{_+_, _≤_};
+ghost use lib.ListN.{take, drop};
 ghost use Rattle.words.specs.Words.{word, words};
 
 #[derive(Clone, Copy)]

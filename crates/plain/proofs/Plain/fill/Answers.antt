@@ -13,7 +13,7 @@ use Rattle.ublock.specs.Variants.{parameters, numbered}
 use Rattle.ublock.specs.declared.variant.Variant.{Variant}
 use Rattle.cipher.specs.Keys.{fillNumberOf}
 use Rattle.plain.specs.Plains.{HoldRegisters, plainE, plainD}
-use Rattle.plain.proofs.KeyRows.{filled-number, filled-means}
+use Rattle.plain.proofs.KeyRows.{filled-number, filled-means, filled-keys}
 use Rattle.plain.proofs.Layouts.{layout-by-length}
 use Rattle.plain.proofs.Plain.fill.Needs as need
 
@@ -27,8 +27,13 @@ returns g c =
     let same = sym (c .in-Some .ensures tt) in
     let block : blockLength (parameters v .layout) ≡ blockLength l = omega arith in
     let loaded = c .in-Some-load .ensures tt in
+    let layout = layout-by-length v l (g .H·Half·met .published) block in
     record {
-      number = filled-number (blockLength l) (c .args .variant) v key same block (loaded .0);
-      cipher = filled-means l count (c .args .variant) v (start .variant) key (start .bytes) (c .round-keys .result) (g .H·Half·met .published) (g .H·Half·met .sized) same
-          (layout-by-length v l (g .H·Half·met .published) block) (loaded .0) (loaded .1) (loaded .2) (c .round-keys .ensures);
+      cipher = record {
+        number = filled-number (blockLength l) (c .args .variant) v key same block (loaded .0);
+        cipher = filled-means l count (c .args .variant) v (start .variant) key (start .bytes) (c .round-keys .result) (g .H·Half·met .published) (g .H·Half·met .sized) same
+            layout (loaded .0) (loaded .1) (loaded .2) (c .round-keys .ensures);
+      };
+      round-keys = filled-keys l count (c .args .variant) v (start .variant) key (start .bytes) (c .round-keys .result) (g .H·Half·met .published) (g .H·Half·met .sized) same
+          layout (loaded .0) (loaded .1) (loaded .2) (c .round-keys .ensures);
     }

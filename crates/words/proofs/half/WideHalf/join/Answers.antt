@@ -4,4 +4,4 @@ use Rattle.words.proofs.half.WideHalf.join.Needs as need
 
 pub returns : need.returns
 unfolding word
-returns c = record { left = refl; right = refl }
+returns c = record { left = refl; right = refl; rest = refl }
