@@ -22,7 +22,7 @@ use Rattle.ublock.proofs.VariantFacts.{bounded}
 use Rattle.std.specs.declared.result.Result.the-variants.{Ok}
 use Rattle.cipher.specs.Engines.{Ran}
 use Rattle.cipher.specs.Keys.{fillNumber, fillNumberOf, MeansCipher}
-use Rattle.words.specs.Halves.{Published}
+use Rattle.halves.specs.Halves.{Published}
 use Rattle.plain.specs.Plains.{Loaded, rowAt, rowKey, HoldRegisters, HoldRoundKeys, plainE, plainD}
 use Rattle.words.specs.Words.{word, words, bothHalves}
 use Rattle.words.specs.declared.row.Row.{Row}

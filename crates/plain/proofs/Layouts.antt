@@ -10,7 +10,7 @@ use Rattle.ublock.specs.declared.variant.Variant.{Variant}
 use Rattle.ublock.specs.declared.variant.Variant.the-variants.{Block128Key128, Block128Key256, Block256Key256}
 use Rattle.ublock.proofs.TableRules.{layouts-invertible}
 use Rattle.cipher.specs.Engines.{Shape}
-use Rattle.words.specs.Halves.{Published}
+use Rattle.halves.specs.Halves.{Published}
 
 pub mixing-of : (l : Layout) → Published l → l .mixing ≡ mixing
 mixing-of l = ⊎-elim (ap (λ (k : Layout). k .mixing)) (ap (λ (k : Layout). k .mixing))

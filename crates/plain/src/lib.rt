@@ -13,11 +13,11 @@ ghost use Rattle.words.specs.Words.{words, bothHalves};
 use cipher::engine::Engine;
 use cipher::engine::EngineFault;
 use cipher::engine::KeyFault;
+use halves::Half;
 use schedule::register::Register;
 use schedule::register::padded;
 use std::marker::PhantomData;
 use ublock::variant::Variant;
-use words::half::Half;
 use words::pieces::Pieces;
 use words::row::Row;
 

@@ -4,6 +4,7 @@ use cipher::engine::Engine;
 use cipher::engine::EngineFaultError;
 use cipher::engine::KeyFault;
 use cipher::engine::KeyFaultError;
+use halves::Half;
 use plain::Plain;
 use plain::PlainEngine;
 use schedule::register::Register;
@@ -11,7 +12,6 @@ use std::alloc::AllocError;
 use std::alloc::Global;
 use std::error::AnyError;
 use ublock::variant::Variant;
-use words::half::Half;
 
 // Bytes in hexadecimal.
 fn hex(heap: Global, bytes: &[u8]) -> Result<String, AllocError> {

@@ -4,14 +4,14 @@ mod examine;
 mod vectors;
 
 use examine::examine;
+use halves::Narrow;
+use halves::NarrowHalf;
+use halves::Wide;
+use halves::WideHalf;
 use std::error::AnyError;
 use ublock::laws;
 use ublock::variant::Variant;
 use vectors::Example;
-use words::half::Narrow;
-use words::half::NarrowHalf;
-use words::half::Wide;
-use words::half::WideHalf;
 use words::pieces::PairPieces;
 use words::pieces::PiecePieces;
 
@@ -26,6 +26,9 @@ fn run(rt: &LibcRuntime) -> Result<(), AnyError> {
         laws::worked_examples()
     )?;
     let examples = vectors::read(rt)?;
+    if examples.is_empty() {
+        return Err("no examples on standard input".into());
+    }
     let mut alike: usize = 0;
     for example in examples.iter() {
         if run_one(rt, example)? {

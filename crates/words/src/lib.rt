@@ -1,4 +1,3 @@
-// Blocks in 32-bit words: rows of eight, and the halves of a block with what the round does to them.
-pub mod half;
+// Blocks in 32-bit words: rows of eight, and what the round does to each word by itself.
 pub mod pieces;
 pub mod row;

@@ -35,14 +35,14 @@ impl Row {
 }
 
 // Four bytes as a word.
-pub(crate) fn word_of(bytes: [u8; 4]) -> u32
+pub fn word_of(bytes: [u8; 4]) -> u32
     ensures { λ r. ⌜ word r ≡ bytes ⌝ }
 {
     u32::from_be_bytes(bytes)
 }
 
 // The four bytes of a word. By shifts: with to_be_bytes, which swaps them in a register, a round is a tenth slower.
-pub(crate) fn bytes_of(piece: u32) -> [u8; 4]
+pub fn bytes_of(piece: u32) -> [u8; 4]
     ensures { λ r. ⌜ r ≡ word piece ⌝ }
 {
     [
