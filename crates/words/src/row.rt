@@ -41,7 +41,7 @@ pub fn word_of(bytes: [u8; 4]) -> u32
     u32::from_be_bytes(bytes)
 }
 
-// The four bytes of a word. By shifts: with to_be_bytes, which swaps them in a register, a round is a tenth slower.
+// The four bytes of a word. By shifts: with to_be_bytes, which swaps them in a register, deciphering was slower.
 pub fn bytes_of(piece: u32) -> [u8; 4]
     ensures { λ r. ⌜ r ≡ word piece ⌝ }
 {
