@@ -1,4 +1,6 @@
 // The half of a block, in two widths: what each is in a row, and its byte permutations.
+#![tactic(auto)]
+
 ghost use Rattle.std.specs.Prelude.{◌≡◌, ◌+◌, ◌-◌, ◌*◌, drop, replicate};
 ghost use Rattle.ublock.specs.Cipher.{Layout, block_length, layout128, layout256, permute};
 ghost use Rattle.halves.specs.Halves.{Published};

@@ -1,4 +1,6 @@
 // The plain engine: one block at a time, nibbles substituted by table.
+#![tactic(auto)]
+
 ghost use Rattle.std.specs.Prelude.{◌≡◌, ◌≤◌, min, ◌++◌, length, take, IfOk};
 ghost use Rattle.ublock.specs.Cipher.{round, inverse_round, rounds, inverse_rounds, block_length, key_length};
 ghost use Rattle.ublock.specs.Variants.{parameters};

@@ -1,5 +1,7 @@
 // Runs the published worked examples of uBlock, read from standard input, through the plain engine, and prints what it
 // did and how it compares. Ends with status 1 where anything is not as published.
+#![tactic(auto)]
+
 mod examine;
 mod vectors;
 
