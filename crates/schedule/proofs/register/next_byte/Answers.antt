@@ -10,7 +10,7 @@ returns-then-j-q c =
     let j = c.args.j in
     let f = c.args.front.now in
     let k = c.args.register.now in
-    ap (bit_xor (get_or k (q + q + j) 0)) (c.substitute.ensures ∙ ap (λ n. on_nibbles S (bit_xor (get_or f j 0) n)) c.byte-or-zero.ensures)
+    ap (bit_xor (get_or k (q + q + j) 0)) (c.substitute.ensures ∙ ap (λ n. on_nibbles S (bit_xor (get_or f j 0) n)) c.byte_or_zero.ensures)
     ∙ first q f c.args.rc.now k (omega arith) (omega arith) (omega arith) j (omega arith)
 
 pub returns-then-j-q-2 : goal.returns-then-j-q-2

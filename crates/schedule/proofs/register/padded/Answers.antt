@@ -2,4 +2,4 @@ use Rattle.schedule.proofs.Padding.{padded_from}
 use Rattle.schedule.proofs.register.padded.Goals as goal
 
 pub returns : goal.returns
-returns c = padded_from c.args.bytes.now c.copy-from-slice.new.self c.min-n.result c.min-n.ensures c.copy-from-slice.ensures.after
+returns c = padded_from c.args.bytes.now c.copy_from_slice.new.self c.min-n.result c.min-n.ensures c.copy_from_slice.ensures.after

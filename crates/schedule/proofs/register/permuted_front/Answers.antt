@@ -5,5 +5,5 @@ use Rattle.schedule.proofs.register.permuted_front.Goals as goal
 pub returns : goal.returns
 returns c =
     let q = c.args.q in
-    let l : length c.permute-nibbles.new.out ≡ q + q = search rules in
-    take_at c.permute-nibbles.new.out _ (q + q) l ∙ c.permute-nibbles.ensures
+    let l : length c.permute_nibbles.new.out ≡ q + q = search rules in
+    take_at c.permute_nibbles.new.out _ (q + q) l ∙ c.permute_nibbles.ensures

@@ -6,4 +6,4 @@ pub returns : goal.returns
 returns c =
     let l : length c.args.bytes ≡ 4 = search rules in
     let t : (k : ℕ) → get_or c.args.bytes k 0 < 256 = λ k. search rules in
-    word_of_bytes c.args.bytes c.from-be-bytes.result l t c.from-be-bytes.ensures
+    word_of_bytes c.args.bytes c.from_be_bytes.result l t c.from_be_bytes.ensures

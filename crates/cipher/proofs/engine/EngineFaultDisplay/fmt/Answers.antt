@@ -10,4 +10,4 @@ only : (e : EngineFault) → engine_fault_text RunLength ≡ engine_fault_text e
 only RunLength = refl
 
 pub returns-clause-writes : goal.returns-clause-writes
-returns-clause-writes g c p ok = has_written_of_eq g.W.Write.write_str_gives c.args.f.now _ _ c.write-str.new.self (only c.args.self.now) (c.write-str.ensures.writes p ok)
+returns-clause-writes g c p ok = has_written_of_eq g.W.Write.write_str_gives c.args.f.now _ _ c.write_str.new.self (only c.args.self.now) (c.write_str.ensures.writes p ok)

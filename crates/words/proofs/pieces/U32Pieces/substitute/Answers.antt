@@ -5,8 +5,8 @@ use Rattle.words.proofs.pieces.U32Pieces.substitute.Goals as goal
 
 pub returns : goal.returns
 returns c =
-    let bs = c.bytes-of-b.result in
+    let bs = c.bytes_of-b.result in
     let l : length bs ≡ 4 = search rules in
-    c.word-of.ensures
+    c.word_of.ensures
     ∙ each_of_four (on_nibbles S) bs _ _ _ _ l c.substitute.ensures c.substitute-2.ensures c.substitute-3.ensures c.substitute-4.ensures
-    ∙ ap (map (on_nibbles S)) c.bytes-of-b.ensures
+    ∙ ap (map (on_nibbles S)) c.bytes_of-b.ensures

@@ -8,8 +8,8 @@ pub loop-i-preserved : goal.loop-i-preserved
 loop-i-preserved c =
     let i = c.loop-i.i in
     let row = c.args.self.pieces in
-    let next = bytes_out row (replicate 32 0) c.loop-i.all c.copy-from-slice.new.self i (i * 4 + 4 - i * 4) (omega arith) c.loop-i.invariant.1
-    (c.copy-from-slice.ensures.after ∙ c.bytes-of-four.ensures) in
+    let next = bytes_out row (replicate 32 0) c.loop-i.all c.copy_from_slice.new.self i (i * 4 + 4 - i * 4) (omega arith) c.loop-i.invariant.1
+    (c.copy_from_slice.ensures.after ∙ c.bytes_of-four.ensures) in
     (length_out row (replicate 32 0) _ (i + 1) next (omega arith), next)
 
 pub returns : goal.returns

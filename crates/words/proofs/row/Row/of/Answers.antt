@@ -6,8 +6,8 @@ use Rattle.words.proofs.row.Row.of.Goals as goal
 
 pub loop-i-preserved : goal.loop-i-preserved
 loop-i-preserved c = (
-  length-set c.loop-i.pieces c.loop-i.i c.word-at.result ∙ c.loop-i.invariant.0,
-  word_in c.loop-i.pieces c.args.bytes c.loop-i.i c.word-at.result (omega (arith, c.loop-i.invariant.0)) c.loop-i.invariant.1 c.word-at.ensures,
+  length-set c.loop-i.pieces c.loop-i.i c.word_at.result ∙ c.loop-i.invariant.0,
+  word_in c.loop-i.pieces c.args.bytes c.loop-i.i c.word_at.result (omega (arith, c.loop-i.invariant.0)) c.loop-i.invariant.1 c.word_at.ensures,
 )
 
 pub returns : goal.returns
