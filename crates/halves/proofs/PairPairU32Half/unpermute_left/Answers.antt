@@ -5,5 +5,5 @@ use Rattle.halves.proofs.PairPairU32Half.unpermute_left.Goals as goal
 
 pub returns : goal.returns
 returns c =
-    wide_permuted layout256.PL_inverse _ _ _ _ _ _ _ _ _ _ _ _ _ _ _ _ c.bytes-of-a.ensures c.bytes-of-b.ensures c.bytes-of-c.ensures c.bytes-of-d.ensures
-    c.word-of.ensures c.word-of-2.ensures c.word-of-3.ensures c.word-of-4.ensures refl
+    wide_permuted layout256.PL_inverse _ _ _ _ _ _ _ _ _ _ _ _ _ _ _ _ c.bytes_of-a.ensures c.bytes_of-b.ensures c.bytes_of-c.ensures c.bytes_of-d.ensures
+    c.word_of.ensures c.word_of-2.ensures c.word_of-3.ensures c.word_of-4.ensures refl

@@ -5,4 +5,4 @@ use Rattle.halves.proofs.PairU32Half.permute_left.Goals as goal
 
 pub returns : goal.returns
 returns c =
-    narrow_permuted layout128.PL _ _ _ _ _ _ _ _ c.bytes-of-a.ensures c.bytes-of-b.ensures c.word-of.ensures c.word-of-2.ensures refl
+    narrow_permuted layout128.PL _ _ _ _ _ _ _ _ c.bytes_of-a.ensures c.bytes_of-b.ensures c.word_of.ensures c.word_of-2.ensures refl
