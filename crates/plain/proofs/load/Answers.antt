@@ -4,9 +4,9 @@ use Rattle.ublock.specs.Cipher.{block_length}
 use Rattle.plain.specs.Runs.{no_block}
 use Rattle.plain.proofs.load.Goals as goal
 
-pub returns-then-run-block-len : goal.returns-then-run-block-len
-returns-then-run-block-len g c =
-    no_block (block_length g.H.Half.layout) (length c.args.run.now) (eqb-false (length c.args.run.now) 0 (sym c.if-is-empty.ensures))
+pub returns-then-run-block_len : goal.returns-then-run-block_len
+returns-then-run-block_len g c =
+    no_block (block_length g.H.Half.layout) (length c.args.run.now) (eqb-false (length c.args.run.now) 0 (sym c.if-is_empty.ensures))
     (λ e. omega arith)
 
 pub returns : goal.returns

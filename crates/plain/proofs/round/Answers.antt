@@ -8,9 +8,9 @@ returns g c =
     let bytes = g.H.Pieces.bytes in
     let whole = g.met.H.Pieces.whole in
     let sized = g.met.H.Half.sized in
-    let key = c.split-key-left.result in
+    let key = c.split-key_left.result in
     round_from g.H.Half.layout (bytes c.args.left) (bytes c.args.right) (bytes key.0) (bytes key.1) _ _ _ _ _ _ _ _ _ _
     (mixing_of _ g.met.H.Half.published) ((whole c.args.left).long ∙ sym sized) ((whole key.0).long ∙ sym sized)
-    c.split-key-left.ensures.left c.split-key-left.ensures.right
+    c.split-key_left.ensures.left c.split-key_left.ensures.right
     c.xor.ensures c.xor-2.ensures c.substitute-left.ensures c.substitute-right.ensures
-    c.mix-left.ensures c.permute-left.ensures c.permute-right.ensures
+    c.mix-left.ensures c.permute_left.ensures c.permute_right.ensures

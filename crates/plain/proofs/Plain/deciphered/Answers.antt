@@ -16,13 +16,13 @@ returns g c =
     let n = c.rounds-n.result in
     let x = c.split-left.result in
     let z = c.unrounds-left.result in
-    let key = c.split-key-left.result in
+    let key = c.split-key_left.result in
     let block = both_halves count c.args.block.now.pieces in
     let split : bytes x.0 ++ bytes x.1 ≡ block =
     alongside (bytes x.0) (bytes x.1) _ _ c.split-left.ensures.left c.split-left.ensures.right in
     let added : bytes c.xor.result ++ bytes c.xor-2.result ≡ xor (bytes x.0 ++ bytes x.1) (rk n) =
     keyed (bytes x.0) (bytes x.1) (bytes key.0) (bytes key.1) _ _ _ _ _ _
-    ((whole x.0).long ∙ sym (whole key.0).long) c.split-key-left.ensures.left c.split-key-left.ensures.right
+    ((whole x.0).long ∙ sym (whole key.0).long) c.split-key_left.ensures.left c.split-key_left.ensures.right
     c.xor.ensures c.xor-2.ensures refl refl in
     alongside _ _ (bytes z.0) (bytes z.1) c.join.ensures.left c.join.ensures.right
     ∙ c.unrounds-left.ensures ∙ ap (inverse_rounds layout rk n) (added ∙ ap (λ w. xor w (rk n)) split)

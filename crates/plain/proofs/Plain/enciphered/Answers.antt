@@ -16,12 +16,12 @@ returns g c =
     let n = c.rounds-n.result in
     let x = c.split-left.result in
     let y = c.rounds-left.result in
-    let key = c.split-key-left.result in
+    let key = c.split-key_left.result in
     let block = both_halves count c.args.block.now.pieces in
     let split : bytes x.0 ++ bytes x.1 ≡ block =
     alongside (bytes x.0) (bytes x.1) _ _ c.split-left.ensures.left c.split-left.ensures.right in
     keyed (bytes y.0) (bytes y.1) (bytes key.0) (bytes key.1) _ _ _ _ _ _
-    ((whole y.0).long ∙ sym (whole key.0).long) c.split-key-left.ensures.left c.split-key-left.ensures.right
+    ((whole y.0).long ∙ sym (whole key.0).long) c.split-key_left.ensures.left c.split-key_left.ensures.right
     c.xor.ensures c.xor-2.ensures c.join.ensures.left c.join.ensures.right
     ∙ ap (λ z. xor z (rk n)) (c.rounds-left.ensures ∙ ap (rounds layout rk n) split)
     ∙ ap (λ m. encipher layout rk m block) c.rounds-n.ensures

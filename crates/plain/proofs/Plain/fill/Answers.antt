@@ -22,9 +22,9 @@ returns g c =
     record {
       cipher = record {
         number = filled_number (block_length l) c.args.variant v key same block loaded.0;
-        cipher = filled_means l count c.args.variant v start.variant key start.bytes c.round-keys.result g.met.H.Half.published g.met.H.Half.sized same
-            layout loaded.0 loaded.1 loaded.2 c.round-keys.ensures;
+        cipher = filled_means l count c.args.variant v start.variant key start.bytes c.round_keys.result g.met.H.Half.published g.met.H.Half.sized same
+            layout loaded.0 loaded.1 loaded.2 c.round_keys.ensures;
       };
-      round-keys = filled_keys l count c.args.variant v start.variant key start.bytes c.round-keys.result g.met.H.Half.published g.met.H.Half.sized same
-          layout loaded.0 loaded.1 loaded.2 c.round-keys.ensures;
+      round_keys = filled_keys l count c.args.variant v start.variant key start.bytes c.round_keys.result g.met.H.Half.published g.met.H.Half.sized same
+          layout loaded.0 loaded.1 loaded.2 c.round_keys.ensures;
     }

@@ -10,15 +10,15 @@ use Rattle.words.specs.WordFacts.{alongside}
 use Rattle.words.specs.Words.{both_halves}
 use Rattle.plain.proofs.Plain.state_after.Goals as goal
 
-pub returns-in-default : goal.returns-in-default
-returns-in-default g c =
+pub returns-in_default : goal.returns-in_default
+returns-in_default g c =
     let b = block_length g.H.Half.layout in
-    ran_none b 1 _ c.args.run.now (subst (λ (o : Option Row). Loaded b c.args.run.now (Ok o)) c.in-default.is c.in-ok-block.ensures)
+    ran_none b 1 _ c.args.run.now (subst (λ (o : Option Row). Loaded b c.args.run.now (Ok o)) c.in_default.is c.in_ok-block.ensures)
 
 pub store-requires : goal.store-requires
 store-requires g c =
     let b = block_length g.H.Half.layout in
-    let loaded = subst (λ (o : Option Row). Loaded b c.args.run.now (Ok o)) c.in-Some.is c.in-ok-block.ensures in
+    let loaded = subst (λ (o : Option Row). Loaded b c.args.run.now (Ok o)) c.in-Some.is c.in_ok-block.ensures in
     omega (arith, loaded.0, length_small b 1 (one_lane_shape g.H.Half.layout g.met.H.Half.published))
 
 pub returns : goal.returns
@@ -27,7 +27,7 @@ returns g c =
     let count = g.H.Pieces.count in
     let bytes = g.H.Pieces.bytes in
     let run = c.args.run.now in
-    let loaded = subst (λ (o : Option Row). Loaded (block_length l) run (Ok o)) c.in-Some.is c.in-ok-block.ensures in
+    let loaded = subst (λ (o : Option Row). Loaded (block_length l) run (Ok o)) c.in-Some.is c.in_ok-block.ensures in
     let rk = row_key count c.args.self.now.rows in
     let block = both_halves count c.in-Some.block.pieces in
     let x = c.split-left.result in
