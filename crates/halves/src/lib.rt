@@ -5,7 +5,7 @@ ghost use Rattle.std.specs.Prelude.{◌≡◌, ◌+◌, ◌-◌, ◌*◌, drop, 
 ghost use Rattle.ublock.specs.Cipher.{Layout, block_length, layout128, layout256, permute};
 ghost use Rattle.halves.specs.Halves.{Published};
 ghost use Rattle.words.specs.Words.{words};
-ghost use Rattle.std.proofs.Common.{rules};
+ghost use Rattle.std.proofs.Common.{refl, inl, inr};
 
 use words::pieces::{Pair, Pieces};
 use words::row::{Row, bytes_of, word_of};
@@ -59,9 +59,9 @@ pub type Wide = Pair<Narrow>;
 impl Half for Pair<u32> {
     ghost layout = { layout128 };
 
-    ghost published = { Prim.search rules };
+    ghost published = { inl refl };
 
-    ghost sized = { Prim.search rules };
+    ghost sized = { refl };
 
     fn block_len() -> usize {
         16
@@ -136,9 +136,9 @@ impl Half for Pair<u32> {
 impl Half for Pair<Pair<u32>> {
     ghost layout = { layout256 };
 
-    ghost published = { Prim.search rules };
+    ghost published = { inr refl };
 
-    ghost sized = { Prim.search rules };
+    ghost sized = { refl };
 
     fn block_len() -> usize {
         32

@@ -1,1 +1,4 @@
 pub mod RoundFacts
+pub mod Layouts
+pub mod KeyRows
+pub mod Runs

@@ -1,5 +1,5 @@
 -- A round of two halves, at any layout that mixes as the code does.
-use Rattle.std.proofs.Common.{◌≡◌, ℕ, List, ◌++◌, length, sym, refl, ap, ◌∙◌, subst}
+use Rattle.std.proofs.Common.{◌≡◌, ℕ, List, ◌++◌, length, sym, ap, ◌∙◌}
 use Rattle.ublock.specs.Cipher.{Layout, S, S_inverse, substitute, xor, permute, mixing, mixed, unmixed, round, inverse_round}
 use Rattle.ublock.proofs.Bytes.{xor-append}
 use Rattle.ublock.proofs.Rounds.{round_of, inverse_round_of}

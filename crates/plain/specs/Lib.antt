@@ -1,4 +1,2 @@
 pub mod Plains
-pub mod Layouts
-pub mod KeyRows
-pub mod Runs
+pub mod Lawful

@@ -8,9 +8,8 @@ ghost use Rattle.cipher.specs.Engines.{Ran, engine_answer};
 ghost use Rattle.cipher.specs.Keys.{Filled, key_answer};
 ghost use Rattle.plain.specs.Plains.{row_key, plain_E, plain_D, HoldRegisters, HoldRoundKeys, Loaded};
 ghost use Rattle.words.specs.Words.{words, both_halves};
-ghost use Rattle.plain.specs.Layouts.{one_lane_shape, invertible_of};
+ghost use Rattle.plain.specs.Lawful.{one_lane_shape, invertible_of, row_key_bytes};
 ghost use Rattle.ublock.proofs.Rounds.{cipher_permutes};
-ghost use Rattle.plain.specs.KeyRows.{row_key_bytes};
 
 use cipher::engine::{Engine, EngineFault, KeyFault};
 use halves::Half;

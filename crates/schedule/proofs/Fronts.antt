@@ -1,5 +1,5 @@
 -- A list whose first i elements have become those of another: the invariant of a loop that fills a place.
-use Rattle.std.proofs.Common.{◌≡◌, ℕ, ◌+◌, ◌<◌, ◌≤◌, List, [], ◌∷◌, ◌++◌, length, get_or, take, drop, set, sym, refl, ap, ◌∙◌, arith}
+use Rattle.std.proofs.Common.{◌≡◌, ℕ, ◌+◌, ◌<◌, ◌≤◌, List, [], ◌∷◌, ◌++◌, length, get_or, take, drop, set, sym, ap, ◌∙◌, arith}
 use Rattle.std.proofs.lemmas.List.{set_at, take_more, drop_more, append_assoc, length-take-le, take_all}
 
 abbrev pub upto : {X : Type 0} → ℕ → List X → List X → List X

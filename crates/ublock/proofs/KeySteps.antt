@@ -1,8 +1,8 @@
 -- The key register stays a block, so every round key is one.
-use Rattle.std.proofs.Common.{◌≡◌, ℕ, zero, suc, ◌+◌, ◌-◌, ◌*◌, ◌/◌, ◌%◌, ◌<◌, ◌≤◌, List, [], ◌∷◌, ◌++◌, map, length, get_or, take, drop, sym, refl, ap, ◌∙◌, subst, arith}
+use Rattle.std.proofs.Common.{◌≡◌, ℕ, zero, suc, ◌+◌, ◌*◌, ◌/◌, ◌%◌, ◌<◌, List, map, length, get_or, take, drop, refl, ◌∙◌, subst, arith}
 use lib.Bits.{bit_xor, bit_and}
-use Rattle.std.proofs.lemmas.List.{get_or-map, get_or-take, get_or-drop, length-take-le, length-drop, length-append, get_or_append_left, get_or-append_right}
-use Rattle.ublock.specs.Cipher.{S, on_nibbles, substitute, xor, permute, nibbles, paired, double_nibbles, be4, key_step_from, key_step, RC, Parameters, ublock128_128, ublock128_256, ublock256_256, register, RK, block_length, key_length}
+use Rattle.std.proofs.lemmas.List.{length-take-le, length-drop, length-append}
+use Rattle.ublock.specs.Cipher.{S, on_nibbles, substitute, xor, permute, nibbles, paired, double_nibbles, be4, key_step, RC, Parameters, ublock128_128, ublock128_256, ublock256_256, register, RK, block_length, key_length}
 use Rattle.ublock.specs.Laws.{Bytes, Block, VariantPermutes}
 use Rattle.ublock.proofs.Check.{agree, bounded}
 use Rattle.ublock.proofs.Bytes.{length-xor, block-xor, block-append, block-take, block-drop, block-map, bytes-map, bytes-take, bounded-permute}

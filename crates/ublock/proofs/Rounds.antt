@@ -1,9 +1,9 @@
 -- Round and inverse round undo each other, and so do enciphering and deciphering, for every layout whose
 -- permutations have inverses, any number of rounds and any round keys.
-use Rattle.std.proofs.Common.{◌≡◌, ℕ, zero, suc, ◌+◌, ◌<◌, List, ◌++◌, map, length, get_or, take, drop, sym, refl, ap, ◌∙◌, arith}
+use Rattle.std.proofs.Common.{◌≡◌, ℕ, zero, suc, ◌+◌, List, ◌++◌, length, get_or, sym, refl, ap, ◌∙◌, arith}
 use Rattle.std.proofs.lemmas.List.{length-map, length-append, length-take, length-drop, map-append, take_at, drop_at, take-append-drop}
-use Rattle.ublock.specs.Cipher.{S, S_inverse, on_nibbles, substitute, xor, permute, Halves, mixed, unmixed, permuted, split, joined, Layout, round, inverse_round, rounds, inverse_rounds, encipher, decipher, block_length}
-use Rattle.ublock.specs.Laws.{Bytes, Block, Undoes, Invertible, RoundUndone, Permutes, CipherPermutes}
+use Rattle.ublock.specs.Cipher.{S, S_inverse, on_nibbles, substitute, xor, permute, Halves, mixed, unmixed, permuted, split, joined, Layout, round, inverse_round, rounds, inverse_rounds, block_length}
+use Rattle.ublock.specs.Laws.{Bytes, Block, Undoes, Invertible, RoundUndone, CipherPermutes}
 use Rattle.ublock.proofs.Bytes.{xor_twice, length-xor, xor-append, bytes-xor, bytes-append, bytes-take, bytes-drop, bytes-map, map_back, bounded-permute, permute_back}
 use Rattle.ublock.proofs.Mixing.{Long, BothBytes, unmixed-mixed, mixed-unmixed, mixed_long, unmixed_long, mixed_bytes, unmixed_bytes}
 use Rattle.ublock.proofs.TableRules.{substitution_undone}

@@ -2,8 +2,7 @@
 use Rattle.std.proofs.Common.{◌≡◌, ℕ, suc, ◌+◌, ◌*◌, ◌/◌, ◌%◌, ◌<◌, Bool, true, false, ◌&&◌, T, eqb, ltb, List, [], ◌∷◌, map, length, get_or, refl, ap, arith, eqb→eq}
 use lib.Bits.{bit_xor}
 use Rattle.std.proofs.lemmas.List.{get_or-map}
-use Rattle.ublock.specs.Cipher.{S, S_inverse, on_nibbles, be4, RC, layout128, layout256}
-use Rattle.ublock.specs.Laws.{Invertible}
+use Rattle.ublock.specs.Cipher.{S, S_inverse, on_nibbles, be4, RC}
 use Rattle.ublock.specs.Tables.{SubstitutionUndone, LayoutsInvertible, occurs, Permutation, PKsPermute, w, ConstantsFromShiftRegister}
 use Rattle.ublock.proofs.Check.{both, all, all_at, agree, bounded}
 

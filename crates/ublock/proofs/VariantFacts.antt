@@ -1,11 +1,10 @@
 -- What each variant's parameters keep to.
-use Rattle.std.proofs.Common.{◌≡◌, ℕ, ◌+◌, ◌*◌, ◌<◌, ◌≤◌, length, get_or, refl, arith}
-use Rattle.ublock.specs.Cipher.{Layout, Parameters, block_length, key_length}
-use Rattle.ublock.specs.Laws.{Invertible}
+use Rattle.std.proofs.Common.{◌≡◌, ℕ, ◌*◌, ◌<◌, ◌≤◌, length, get_or, refl, arith}
+use Rattle.ublock.specs.Cipher.{Parameters, block_length, key_length}
 use Rattle.ublock.specs.Variants.{parameters}
 use Rattle.ublock.specs.declared.variant.Variant.{Variant}
 use Rattle.ublock.specs.declared.variant.Variant.TheVariants.{Block128Key128, Block128Key256, Block256Key256}
-use Rattle.ublock.proofs.TableRules.{PKs_permute, layouts_invertible}
+use Rattle.ublock.proofs.TableRules.{PKs_permute}
 
 pub record Bounded (p : Parameters) : Type 0 where
   pub PK_long : length p.PK ≡ p.quarter * 4

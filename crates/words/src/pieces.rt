@@ -1,11 +1,9 @@
 // Rows of 32-bit pieces: what the round does to each piece by itself, said once for any number of them.
 ghost use Rattle.std.specs.Prelude.{◌≡◌, ℕ, ◌+◌, ◌*◌, ◌<◌, List, ◌++◌};
-ghost use Rattle.std.proofs.Common.{subst, arith};
 ghost use Rattle.ublock.specs.Cipher.{S, S_inverse, substitute, xor, rotate, mixing, mixed, unmixed};
 ghost use Rattle.ublock.specs.Laws.{Block};
 ghost use Rattle.words.specs.Words.{word, halves};
-ghost use Rattle.words.specs.WordFacts.{word_block};
-ghost use Rattle.ublock.proofs.Bytes.{block-append};
+ghost use Rattle.words.specs.WordBlocks.{word_block, block_beside};
 
 use crate::row::{bytes_of, word_of};
 use ublock::tables;
@@ -112,11 +110,7 @@ impl<P: Pieces + Copy> Pieces for Pair<P> {
     ghost count = { P.Pieces.count + P.Pieces.count };
 
     ghost whole = { λ x.
-        let n = P.Pieces.count in
-        let bytes = P.Pieces.bytes in
-        let e : n * 4 + n * 4 ≡ (n + n) * 4 = omega arith in
-        subst (λ m. Block m (bytes x.first ++ bytes x.second)) e
-        (block-append (n * 4) (n * 4) (bytes x.first) (bytes x.second) (P.Pieces.whole x.first) (P.Pieces.whole x.second)) };
+        block_beside P.Pieces.count (P.Pieces.bytes x.first) (P.Pieces.bytes x.second) (P.Pieces.whole x.first) (P.Pieces.whole x.second) };
 
     fn xor(self, other: Pair<P>) -> Pair<P> {
         Pair {

@@ -1,7 +1,7 @@
-use Rattle.std.proofs.Common.{◌≡◌, length, sym, ◌∙◌, arith}
+use Rattle.std.proofs.Common.{length, sym, ◌∙◌, arith}
 use Rattle.std.proofs.lemmas.Bool.{eqb-false}
 use Rattle.ublock.specs.Cipher.{block_length}
-use Rattle.plain.specs.Runs.{no_block}
+use Rattle.plain.proofs.Runs.{no_block}
 use Rattle.plain.proofs.load.Goals as goal
 
 pub returns-then-run-block_len : goal.returns-then-run-block_len

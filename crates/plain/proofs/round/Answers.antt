@@ -1,5 +1,5 @@
-use Rattle.std.proofs.Common.{◌≡◌, sym, ◌∙◌}
-use Rattle.plain.specs.Layouts.{mixing_of}
+use Rattle.std.proofs.Common.{sym, ◌∙◌}
+use Rattle.plain.proofs.Layouts.{mixing_of}
 use Rattle.plain.proofs.RoundFacts.{round_from}
 use Rattle.plain.proofs.round.Goals as goal
 

@@ -1,4 +1,4 @@
-use Rattle.std.proofs.Common.{◌≡◌, ℕ, ◌+◌, ◌≤◌, List, [], length, take, replicate, refl, ap, ◌∙◌, subst, arith, rules}
+use Rattle.std.proofs.Common.{◌≡◌, ◌+◌, [], length, take, replicate, refl, ap, ◌∙◌, subst, arith, rules}
 use Rattle.std.proofs.lemmas.List.{length-set, length-take-le}
 use Rattle.ublock.specs.Cipher.{key_length, register}
 use Rattle.ublock.specs.Variants.{parameters}
@@ -6,7 +6,7 @@ use Rattle.ublock.proofs.VariantFacts.{bounded}
 use Rattle.plain.specs.Plains.{row_at}
 use Rattle.words.specs.Words.{words}
 use Rattle.words.specs.declared.row.Row.{Row}
-use Rattle.plain.specs.KeyRows.{rows_more, stepped}
+use Rattle.plain.proofs.KeyRows.{rows_more, stepped}
 use Rattle.plain.proofs.round_keys.Goals as goal
 
 pub loop-i-init : goal.loop-i-init

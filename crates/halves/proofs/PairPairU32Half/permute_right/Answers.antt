@@ -1,6 +1,6 @@
 use Rattle.std.proofs.Common.{refl}
 use Rattle.ublock.specs.Cipher.{layout256}
-use Rattle.words.specs.WordFacts.{wide_permuted}
+use Rattle.words.proofs.WordFacts.{wide_permuted}
 use Rattle.halves.proofs.PairPairU32Half.permute_right.Goals as goal
 
 pub returns : goal.returns

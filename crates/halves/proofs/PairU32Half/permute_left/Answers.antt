@@ -1,6 +1,6 @@
 use Rattle.std.proofs.Common.{refl}
 use Rattle.ublock.specs.Cipher.{layout128}
-use Rattle.words.specs.WordFacts.{narrow_permuted}
+use Rattle.words.proofs.WordFacts.{narrow_permuted}
 use Rattle.halves.proofs.PairU32Half.permute_left.Goals as goal
 
 pub returns : goal.returns

@@ -1,9 +1,9 @@
-use Rattle.std.proofs.Common.{◌≡◌, ℕ, ◌++◌, sym, refl, ap, ◌∙◌}
+use Rattle.std.proofs.Common.{◌≡◌, ◌++◌, sym, ap, ◌∙◌}
 use Rattle.ublock.specs.Cipher.{xor, rounds, encipher}
 use Rattle.plain.specs.Plains.{row_key}
 use Rattle.words.specs.Words.{both_halves}
 use Rattle.plain.proofs.RoundFacts.{keyed}
-use Rattle.words.specs.WordFacts.{alongside}
+use Rattle.words.proofs.WordFacts.{alongside}
 use Rattle.plain.proofs.Plain.enciphered.Goals as goal
 
 pub returns : goal.returns

@@ -1,11 +1,8 @@
-use Rattle.std.proofs.Common.{◌≡◌, ℕ, cond, eqb, List, length, take, Some, Option, sym, refl, ap, ◌∙◌, subst, arith, eq-eqb}
-use Rattle.ublock.specs.Cipher.{block_length, key_length, E, D}
-use Rattle.ublock.specs.Variants.{parameters, numbered}
-use Rattle.ublock.specs.declared.variant.Variant.{Variant}
-use Rattle.cipher.specs.Keys.{fill_number_of}
-use Rattle.plain.specs.Plains.{HoldRegisters, plain_E, plain_D}
-use Rattle.plain.specs.KeyRows.{filled_number, filled_means, filled_keys}
-use Rattle.plain.specs.Layouts.{layout_by_length}
+use Rattle.std.proofs.Common.{◌≡◌, sym, arith}
+use Rattle.ublock.specs.Cipher.{block_length}
+use Rattle.ublock.specs.Variants.{parameters}
+use Rattle.plain.proofs.KeyRows.{filled_number, filled_means, filled_keys}
+use Rattle.plain.proofs.Layouts.{layout_by_length}
 use Rattle.plain.proofs.Plain.fill.Goals as goal
 
 pub returns : goal.returns

@@ -1,12 +1,12 @@
-use Rattle.std.proofs.Common.{◌≡◌, min, ◌++◌, Ok, Option, sym, refl, ap, ◌∙◌, subst, arith}
+use Rattle.std.proofs.Common.{min, Ok, Option, ap, ◌∙◌, subst, arith}
 use Rattle.ublock.specs.Cipher.{block_length, rounds}
 use Rattle.ublock.specs.Variants.{parameters}
-use Rattle.plain.specs.Plains.{Loaded, row_key, plain_E, plain_D}
+use Rattle.plain.specs.Plains.{Loaded, row_key}
 use Rattle.words.specs.declared.row.Row.{Row}
-use Rattle.plain.specs.KeyRows.{ran_loaded}
-use Rattle.plain.specs.Layouts.{one_lane_shape}
-use Rattle.plain.specs.Runs.{length_small, ran_none}
-use Rattle.words.specs.WordFacts.{alongside}
+use Rattle.plain.proofs.KeyRows.{ran_loaded}
+use Rattle.plain.specs.Lawful.{one_lane_shape}
+use Rattle.plain.proofs.Runs.{length_small, ran_none}
+use Rattle.words.proofs.WordFacts.{alongside}
 use Rattle.words.specs.Words.{both_halves}
 use Rattle.plain.proofs.Plain.state_after.Goals as goal
 

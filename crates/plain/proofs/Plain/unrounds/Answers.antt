@@ -1,5 +1,5 @@
 use Rattle.std.proofs.Common.{◌≡◌, suc, ◌+◌, ◌-◌, ◌++◌, sym, ap, ◌∙◌, arith}
-use Rattle.ublock.specs.Cipher.{inverse_round, inverse_rounds}
+use Rattle.ublock.specs.Cipher.{inverse_rounds}
 use Rattle.plain.specs.Plains.{row_key}
 use Rattle.plain.proofs.Plain.unrounds.Goals as goal
 

@@ -1,11 +1,10 @@
-use Rattle.std.proofs.Common.{◌≡◌, ◌++◌, Ok, Option, sym, refl, ap, ◌∙◌, subst, arith}
-use Rattle.ublock.specs.Cipher.{block_length, rounds}
-use Rattle.ublock.specs.Variants.{parameters}
-use Rattle.plain.specs.Plains.{Loaded, row_key, plain_E, plain_D}
+use Rattle.std.proofs.Common.{Ok, Option, subst, arith}
+use Rattle.ublock.specs.Cipher.{block_length}
+use Rattle.plain.specs.Plains.{Loaded, plain_E}
 use Rattle.words.specs.declared.row.Row.{Row}
-use Rattle.plain.specs.KeyRows.{ran_loaded}
-use Rattle.plain.specs.Layouts.{one_lane_shape}
-use Rattle.plain.specs.Runs.{length_small, ran_none}
+use Rattle.plain.proofs.KeyRows.{ran_loaded}
+use Rattle.plain.specs.Lawful.{one_lane_shape}
+use Rattle.plain.proofs.Runs.{length_small, ran_none}
 use Rattle.plain.proofs.PlainEngine.encipher.Goals as goal
 
 pub returns-in_default : goal.returns-in_default

@@ -1,4 +1,4 @@
-use Rattle.std.proofs.Common.{◌≡◌, ◌+◌, get_or, ap, ◌∙◌, arith}
+use Rattle.std.proofs.Common.{◌+◌, get_or, ap, ◌∙◌, arith}
 use lib.Bits.{bit_xor}
 use Rattle.ublock.specs.Cipher.{S, on_nibbles}
 use Rattle.schedule.proofs.Quarters.{first, second, third, fourth}

@@ -1,4 +1,4 @@
-use Rattle.std.proofs.Common.{◌≡◌, ℕ, suc, ◌*◌, ◌/◌, get_or, sym, ap, ◌∙◌, arith, rules}
+use Rattle.std.proofs.Common.{◌≡◌, suc, ◌*◌, ◌/◌, get_or, sym, ap, ◌∙◌, arith, rules}
 use Rattle.ublock.specs.Cipher.{nibbles}
 use Rattle.ublock.proofs.Nibbles.{nibbles_high, nibbles_low}
 use Rattle.schedule.proofs.register.nibble.Goals as goal

@@ -1,5 +1,5 @@
-use Rattle.std.proofs.Common.{◌≡◌, ℕ, ◌+◌, ◌*◌, ◌/◌, List, ◌++◌, length, take, drop, replicate, sym, ap, ◌∙◌, subst, arith, rules}
-use Rattle.ublock.specs.Cipher.{nibbles, paired, permute, key_step, key_step_from, be4}
+use Rattle.std.proofs.Common.{◌≡◌, ◌+◌, ◌/◌, ◌++◌, length, take, drop, replicate, ap, ◌∙◌, arith, rules}
+use Rattle.ublock.specs.Cipher.{nibbles, paired, permute, key_step, key_step_from}
 use Rattle.schedule.specs.Registers.{padded}
 use Rattle.schedule.proofs.Fronts.{upto_step, upto_all}
 use Rattle.schedule.proofs.Quarters.{long_step}

@@ -1,7 +1,7 @@
 use Rattle.std.proofs.Common.{ap, ◌∙◌, arith}
 use Rattle.ublock.specs.Cipher.{xor}
 use Rattle.words.specs.Words.{word}
-use Rattle.words.specs.WordFacts.{word-xor, word_rotated}
+use Rattle.words.proofs.WordFacts.{word-xor, word_rotated}
 use Rattle.words.proofs.pieces.add_rotated.Goals as goal
 
 pub returns : goal.returns

@@ -1,5 +1,5 @@
 use Rattle.std.proofs.Common.{arith}
-use Rattle.words.specs.WordFacts.{word_by_shifts}
+use Rattle.words.proofs.WordFacts.{word_by_shifts}
 use Rattle.words.proofs.row.bytes_of.Goals as goal
 
 pub returns : goal.returns

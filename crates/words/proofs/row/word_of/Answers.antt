@@ -1,5 +1,5 @@
 use Rattle.std.proofs.Common.{◌≡◌, ℕ, ◌<◌, length, get_or, rules}
-use Rattle.words.specs.WordFacts.{word_of_bytes}
+use Rattle.words.proofs.WordFacts.{word_of_bytes}
 use Rattle.words.proofs.row.word_of.Goals as goal
 
 pub returns : goal.returns

@@ -1,7 +1,6 @@
 use Rattle.std.proofs.Common.{sym, ap}
 use Rattle.std.proofs.Output.{has_written_of_eq}
 use Rattle.cipher.specs.Keys.{key_fault_text}
-use Rattle.cipher.specs.declared.engine.KeyFault.{KeyFault}
 use Rattle.cipher.proofs.engine.KeyFaultDisplay.fmt.Goals as goal
 
 pub returns-in-NoVariant-clause-writes : goal.returns-in-NoVariant-clause-writes

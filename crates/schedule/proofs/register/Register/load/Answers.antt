@@ -1,4 +1,4 @@
-use Rattle.std.proofs.Common.{◌≡◌, ◌≤◌, length, refl, ◌∙◌, arith}
+use Rattle.std.proofs.Common.{◌≡◌, length, refl, ◌∙◌, arith}
 use Rattle.ublock.specs.Cipher.{key_length}
 use Rattle.ublock.specs.Variants.{parameters}
 use Rattle.schedule.proofs.Padding.{padded_whole}

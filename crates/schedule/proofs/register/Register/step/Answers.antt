@@ -1,6 +1,6 @@
 use Rattle.std.proofs.Common.{◌≡◌, ℕ, ◌*◌, ◌/◌, ◌<◌, List, length, get_or, take, sym, refl, ap, ◌∙◌, subst, arith, rules}
 use Rattle.std.proofs.lemmas.List.{length-take-le}
-use Rattle.ublock.specs.Cipher.{key_step, key_length, RC}
+use Rattle.ublock.specs.Cipher.{key_step, RC}
 use Rattle.schedule.specs.Registers.{padded}
 use Rattle.ublock.specs.Variants.{parameters}
 use Rattle.ublock.proofs.VariantFacts.{bounded}

@@ -1,4 +1,4 @@
-use Rattle.std.proofs.Common.{◌≡◌, sym, ap, ◌∙◌}
+use Rattle.std.proofs.Common.{sym, ap, ◌∙◌}
 use Rattle.ublock.specs.Cipher.{mixing, mixed}
 use Rattle.ublock.proofs.Mixing.{beside, mixed_beside}
 use Rattle.words.specs.Words.{halves}

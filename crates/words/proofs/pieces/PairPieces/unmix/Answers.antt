@@ -1,4 +1,4 @@
-use Rattle.std.proofs.Common.{◌≡◌, sym, ap, ◌∙◌}
+use Rattle.std.proofs.Common.{sym, ap, ◌∙◌}
 use Rattle.ublock.specs.Cipher.{mixing, unmixed}
 use Rattle.ublock.proofs.Mixing.{beside, unmixed_beside}
 use Rattle.words.specs.Words.{halves}

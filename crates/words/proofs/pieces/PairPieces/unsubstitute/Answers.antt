@@ -1,4 +1,4 @@
-use Rattle.std.proofs.Common.{◌≡◌, ◌++◌, sym, ap, ◌∙◌}
+use Rattle.std.proofs.Common.{◌++◌, sym, ap, ◌∙◌}
 use Rattle.std.proofs.lemmas.List.{map-append}
 use Rattle.ublock.specs.Cipher.{S_inverse, on_nibbles, substitute}
 use Rattle.words.proofs.pieces.PairPieces.unsubstitute.Goals as goal

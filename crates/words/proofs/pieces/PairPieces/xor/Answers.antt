@@ -1,4 +1,4 @@
-use Rattle.std.proofs.Common.{◌≡◌, ◌++◌, sym, ap, ◌∙◌}
+use Rattle.std.proofs.Common.{◌++◌, sym, ap, ◌∙◌}
 use Rattle.ublock.specs.Cipher.{xor}
 use Rattle.ublock.proofs.Bytes.{xor-append}
 use Rattle.words.proofs.pieces.PairPieces.xor.Goals as goal

@@ -1,5 +1,5 @@
 use Rattle.words.specs.Words.{word}
-use Rattle.words.specs.WordFacts.{mix_of}
+use Rattle.words.proofs.WordFacts.{mix_of}
 use Rattle.words.proofs.pieces.U32Pieces.mix.Goals as goal
 
 pub returns : goal.returns

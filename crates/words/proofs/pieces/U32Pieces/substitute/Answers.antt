@@ -1,6 +1,6 @@
 use Rattle.std.proofs.Common.{◌≡◌, map, length, ap, ◌∙◌, rules}
 use Rattle.ublock.specs.Cipher.{S, on_nibbles}
-use Rattle.words.specs.WordFacts.{each_of_four}
+use Rattle.words.proofs.WordFacts.{each_of_four}
 use Rattle.words.proofs.pieces.U32Pieces.substitute.Goals as goal
 
 pub returns : goal.returns

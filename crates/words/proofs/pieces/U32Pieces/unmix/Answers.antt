@@ -1,5 +1,5 @@
 use Rattle.words.specs.Words.{word}
-use Rattle.words.specs.WordFacts.{unmix_of}
+use Rattle.words.proofs.WordFacts.{unmix_of}
 use Rattle.words.proofs.pieces.U32Pieces.unmix.Goals as goal
 
 pub returns : goal.returns

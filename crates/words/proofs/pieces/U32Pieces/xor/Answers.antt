@@ -1,4 +1,4 @@
-use Rattle.words.specs.WordFacts.{word-xor}
+use Rattle.words.proofs.WordFacts.{word-xor}
 use Rattle.words.proofs.pieces.U32Pieces.xor.Goals as goal
 
 pub returns : goal.returns

@@ -1,7 +1,7 @@
-use Rattle.std.proofs.Common.{◌≡◌, ℕ, ◌+◌, ◌-◌, ◌*◌, ◌++◌, drop, replicate, ap, ◌∙◌, arith}
+use Rattle.std.proofs.Common.{◌≡◌, ◌+◌, ◌-◌, ◌*◌, ◌++◌, drop, replicate, ap, ◌∙◌, arith}
 use Rattle.std.proofs.lemmas.List.{append-nil}
 use Rattle.words.specs.Words.{words}
-use Rattle.words.specs.WordFacts.{bytes_out, length_out}
+use Rattle.words.proofs.WordFacts.{bytes_out, length_out}
 use Rattle.words.proofs.row.Row.bytes.Goals as goal
 
 pub loop-i-preserved : goal.loop-i-preserved

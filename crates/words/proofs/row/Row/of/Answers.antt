@@ -1,7 +1,7 @@
-use Rattle.std.proofs.Common.{◌≡◌, ℕ, ◌*◌, length, take, sym, ap, ◌∙◌, arith, rules}
+use Rattle.std.proofs.Common.{◌≡◌, ◌*◌, length, take, sym, ap, ◌∙◌, arith, rules}
 use Rattle.std.proofs.lemmas.List.{length-set, take_all}
 use Rattle.words.specs.Words.{words}
-use Rattle.words.specs.WordFacts.{word_in}
+use Rattle.words.proofs.WordFacts.{word_in}
 use Rattle.words.proofs.row.Row.of.Goals as goal
 
 pub loop-i-preserved : goal.loop-i-preserved

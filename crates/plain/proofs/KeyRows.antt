@@ -1,14 +1,12 @@
 -- Rows of words that hold the key register, step by step, hold the round keys.
-use Rattle.std.specs.Prelude.{◌≡◌, ℕ, zero, suc, ◌+◌, ◌-◌, ◌*◌, ◌<◌, ◌≤◌, List, [], ◌∷◌, ◌++◌, length, take, Some, Ok, slice_index, slice_index_or, slice_set, refl}
+use Rattle.std.specs.Prelude.{◌≡◌, ℕ, zero, suc, ◌+◌, ◌-◌, ◌*◌, ◌<◌, ◌≤◌, List, ◌++◌, length, take, Some, Ok, slice_index, slice_index_or, slice_set, refl}
 use Rattle.std.proofs.Common.{sym, ap, subst, ◌∙◌, ⊎_elim, add-one, arith, eq-eqb}
-use Rattle.std.proofs.lemmas.List.{get_or-set_same, get_or-set_other, take-take, take_at, append_assoc, length-append, length-take-le}
+use Rattle.std.proofs.lemmas.List.{get_or-set_same, get_or-set_other, take-take, take_at}
 use Rattle.std.proofs.lemmas.Bool.{cases_eq}
-use Rattle.ublock.specs.Cipher.{Layout, Parameters, encipher, decipher, rounds, inverse_rounds, round, inverse_round, xor, RC, key_step, register, RK, E, D, block_length, key_length}
+use Rattle.ublock.specs.Cipher.{Layout, encipher, decipher, rounds, inverse_rounds, round, inverse_round, xor, RC, key_step, register, RK, E, D, block_length, key_length}
 use Rattle.schedule.specs.Registers.{padded}
 use Rattle.ublock.specs.Variants.{parameters, numbered}
 use Rattle.ublock.specs.declared.variant.Variant.{Variant}
-use Rattle.ublock.specs.Laws.{Bytes}
-use Rattle.ublock.proofs.Bytes.{bytes-append}
 use Rattle.ublock.proofs.KeySteps.{register_long}
 use Rattle.schedule.proofs.Padding.{padded_front, padded_whole}
 use Rattle.ublock.proofs.VariantFacts.{bounded}
@@ -16,11 +14,12 @@ use Rattle.cipher.specs.Engines.{Ran}
 use Rattle.cipher.specs.Keys.{fill_number, fill_number_of, MeansCipher}
 use Rattle.halves.specs.Halves.{Published}
 use Rattle.plain.specs.Plains.{Loaded, row_at, row_key, HoldRegisters, HoldRoundKeys, plain_E, plain_D}
-use Rattle.words.specs.Words.{word, words, both_halves}
+use Rattle.words.specs.Words.{words, both_halves}
 use Rattle.words.specs.declared.row.Row.{Row}
-use Rattle.plain.specs.Layouts.{fits_row, one_lane_shape}
-use Rattle.plain.specs.Runs.{length_pos, ran_one}
-use Rattle.words.specs.WordFacts.{word_block, length-words, words_append}
+use Rattle.plain.specs.Lawful.{one_lane_shape}
+use Rattle.plain.proofs.Layouts.{fits_row}
+use Rattle.plain.proofs.Runs.{length_pos, ran_one}
+use Rattle.words.proofs.WordFacts.{length-words, words_append}
 
 -- ---- words one after the other
 zero_plus : (n : ℕ) → 0 + n ≡ n
@@ -36,13 +35,6 @@ pub halves_front : (count : ℕ) (row : List ℕ) → count + count ≤ 8 → bo
 halves_front count row h =
     let both : both_halves count row ≡ words (count + count) 0 row = sym (words_append count count 0 row ∙ ap (λ k. words count 0 row ++ words count k row) (zero_plus count)) in
     both ∙ sym (front (count + count) row h (count * 4 + count * 4) (omega arith))
-
-bytes-words : (n i : ℕ) (row : List ℕ) → Bytes (words n i row)
-bytes-words zero i row = tt
-bytes-words (suc n) i row = bytes-append (word (slice_index row i)) (words n (suc i) row) (word_block (slice_index row i)).bytes (bytes-words n (suc i) row)
-
-pub row_key_bytes : (count : ℕ) (rows : List Row) (j : ℕ) → Bytes (row_key count rows j)
-row_key_bytes count rows j = bytes-append (words count 0 (row_at rows j)) (words count count (row_at rows j)) (bytes-words count 0 (row_at rows j)) (bytes-words count count (row_at rows j))
 
 -- ---- one more row
 pub rows_more : {X Y : Type 0} (f : X → Y) (g : ℕ → Y) (xs : List X) (i : ℕ) (x d : X) → i + 1 < length xs → f x ≡ g (i + 1)

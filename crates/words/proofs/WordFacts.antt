@@ -10,13 +10,9 @@ use Rattle.std.proofs.lemmas.Nat.{mod-pow-add, shl-shr, or_shifted, shr_below, x
 use Rattle.std.proofs.lemmas.Simd.{pick_l_whole}
 use borrow.Rule.Slice.PartMut.{put_mid}
 use Rattle.std.proofs.lemmas.List.{append-nil, append_assoc, length-append, get_or-set_same, get_or-set_other, take_at, drop_at, drop-drop, length-drop}
-use Rattle.ublock.specs.Cipher.{xor, permute, be4, rotated, rotate, Halves, mixing, mixed, unmixed}
-use Rattle.ublock.specs.Laws.{Bytes, Block}
+use Rattle.ublock.specs.Cipher.{xor, permute, be4, rotated, rotate, mixing, mixed, unmixed}
 use Rattle.words.specs.Words.{word, words, halves}
-
-pub word_block : (n : ℕ) → Block 4 (word n)
-unfolding word
-word_block n = record { long = refl; bytes = (omega arith, (omega arith, (omega arith, (omega arith, tt)))) }
+use Rattle.words.specs.WordBlocks.{word_block}
 
 four_long : (n : ℕ) (x : List ℕ) → x ≡ word n → length x ≡ 4
 four_long n x e = ap length e ∙ (word_block n).long

@@ -1,27 +1,14 @@
 -- What holds of both layouts, and which layout a variant has.
-use Rattle.std.specs.Prelude.{◌≡◌, ℕ, ◌+◌, ◌*◌, ◌≤◌, refl}
-use Rattle.std.proofs.Common.{sym, ap, subst, ◌∙◌, inl, inr, ⊎_elim, arith}
-use Rattle.ublock.specs.Cipher.{Layout, layout128, layout256, mixing, block_length}
-use Rattle.ublock.specs.Laws.{Invertible}
+use Rattle.std.specs.Prelude.{◌≡◌, ℕ, ◌+◌, ◌*◌, ◌≤◌}
+use Rattle.std.proofs.Common.{sym, ap, ⊎_elim, arith}
+use Rattle.ublock.specs.Cipher.{Layout, mixing, block_length}
 use Rattle.ublock.specs.Variants.{parameters}
 use Rattle.ublock.specs.declared.variant.Variant.{Variant}
 use Rattle.ublock.specs.declared.variant.Variant.TheVariants.{Block128Key128, Block128Key256, Block256Key256}
-use Rattle.ublock.proofs.TableRules.{layouts_invertible}
-use Rattle.cipher.specs.Engines.{Shape}
 use Rattle.halves.specs.Halves.{Published}
 
 pub mixing_of : (l : Layout) → Published l → l.mixing ≡ mixing
 mixing_of l = ⊎_elim (ap (λ (k : Layout). k.mixing)) (ap (λ (k : Layout). k.mixing))
-
-pub invertible_of : (l : Layout) → Published l → Invertible l
-invertible_of l = ⊎_elim (λ e. subst Invertible (sym e) layouts_invertible.0) (λ e. subst Invertible (sym e) layouts_invertible.1)
-
-pub one_lane_shape : (l : Layout) → Published l → Shape (block_length l) 1
-one_lane_shape l p = record {
-  length_of_block = ⊎_elim (λ e. inl (ap block_length e)) (λ e. inr (ap block_length e)) p;
-  one_lane = omega arith;
-  eight_lanes = omega arith;
-}
 
 -- a block of either layout fits a row of eight words
 pub fits_row : (l : Layout) (count : ℕ) → Published l → l.half ≡ count * 4 → count + count ≤ 8

@@ -1,11 +1,11 @@
 -- Runs of no block and of one.
-use Rattle.std.specs.Prelude.{◌≡◌, ℕ, zero, suc, ◌*◌, ◌/◌, ◌%◌, ◌<◌, ◌≤◌, Bool, true, false, cond, List, [], ◌∷◌, ◌++◌, length, take, Some, ◌≢◌, refl}
-use Rattle.std.proofs.Common.{sym, ap, subst, ◌∙◌, ⊎_elim, mod-eq_of_lt, arith}
+use Rattle.std.specs.Prelude.{◌≡◌, ℕ, ◌*◌, ◌/◌, ◌%◌, ◌<◌, ◌≤◌, true, false, List, [], ◌∷◌, length, take, Some, ◌≢◌}
+use Rattle.std.proofs.Common.{sym, ap, ◌∙◌, ⊎_elim, mod-eq_of_lt, arith}
 use Rattle.std.proofs.Math.Nat.{zero-mod, zero-div, mod_self, div_self}
 use Rattle.std.proofs.lemmas.List.{take_all, append-nil}
 use Rattle.std.proofs.lemmas.Bool.{cases_lt}
 use Rattle.std.proofs.lemmas.Bool.Decides.{nat_tests}
-use Rattle.cipher.specs.Engines.{Shape, Answer, Ran, refused, each}
+use Rattle.cipher.specs.Engines.{Shape, Ran, refused, each}
 
 pub length_pos : (b w : ℕ) → Shape b w → 0 < b
 length_pos b w s = ⊎_elim (λ e. omega arith) (λ e. omega arith) s.length_of_block
