@@ -3,7 +3,8 @@
 
 usage: tools/respell.py     at the top of the repository, once, after the toolchain's own port script
 
-Goes by whole names, over crates/ (sources, specs, proofs, edits), README.md and docs/. It stops where two names would fall together.
+Goes by whole names, over crates/ (sources, specs, proofs, edits), README.md and docs/. Where two names would fall together it
+prints a line that begins with look:, and goes on.
 """
 
 import pathlib
