@@ -1,4 +1,5 @@
-// Engines: keyed permutations of blocks of 16 or 32 bytes, behind one interface.
+//! Engines: keyed permutations of blocks of 16 or 32 bytes, behind one interface.
+
 #![tactic(auto)]
 
 pub mod engine;

@@ -1,5 +1,5 @@
 -- What holds of both layouts, and which layout a variant has.
-use Rattle.std.specs.Prelude.{◌≡◌, ℕ, ◌+◌, ◌*◌, ◌≤◌}
+use Rattle.std.specs.Prelude.{◌≡◌}
 use Rattle.std.proofs.Common.{sym, ap, ⊎_elim, arith}
 use Rattle.ublock.specs.Cipher.{Layout, mixing, block_length}
 use Rattle.ublock.specs.Variants.{parameters}
@@ -9,11 +9,6 @@ use Rattle.halves.specs.Halves.{Published}
 
 pub mixing_of : (l : Layout) → Published l → l.mixing ≡ mixing
 mixing_of l = ⊎_elim (ap (λ (k : Layout). k.mixing)) (ap (λ (k : Layout). k.mixing))
-
--- a block of either layout fits a row of eight words
-pub fits_row : (l : Layout) (count : ℕ) → Published l → l.half ≡ count * 4 → count + count ≤ 8
-fits_row l count p e =
-    ⊎_elim (λ q. let h = ap (λ (k : Layout). k.half) q in omega arith) (λ q. let h = ap (λ (k : Layout). k.half) q in omega arith) p
 
 pub layout_by_length : (v : Variant) (l : Layout) → Published l → block_length (parameters v).layout ≡ block_length l → (parameters v).layout ≡ l
 layout_by_length Block128Key128 l p e = ⊎_elim (λ q. sym q) (λ q. let h = ap block_length q in absurd (omega arith)) p

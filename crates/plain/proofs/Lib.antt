@@ -1,4 +1,5 @@
-pub mod RoundFacts
-pub mod Layouts
-pub mod KeyRows
-pub mod Runs
+mod Layouts
+mod Runs
+mod RoundFacts
+mod RowFacts
+mod KeyRows

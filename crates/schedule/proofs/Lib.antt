@@ -1,3 +1,4 @@
-pub mod Fronts
+pub mod KeyRows
+pub mod Nibbles
 pub mod Padding
 pub mod Quarters

@@ -1,23 +1,28 @@
 -- Bytes at the front of a place of 32.
-use Rattle.std.proofs.Common.{◌≡◌, ℕ, ◌≤◌, min, List, ◌++◌, length, take, drop, replicate, sym, ap, ◌∙◌, ⊎_elim, arith}
-use Rattle.std.proofs.lemmas.List.{length-take, take_all, take_at}
+use Rattle.std.proofs.Common.{◌≡◌, ℕ, zero, suc, ◌+◌, ◌-◌, ◌≤◌, List, length, get_or, take, drop, replicate, sym, refl, ap, ◌∙◌, ⊎_elim, arith}
+use Rattle.std.proofs.lemmas.List.{length-append, length-drop, take_all, take_at, get_or_append_left, get_or-append_right, get_or-drop, get_or_past}
 use Rattle.std.proofs.lemmas.Bool.{cases_lt}
 use Rattle.schedule.specs.Registers.{padded}
-
-clipped : (xs : List ℕ) (n : ℕ) → n ≡ min (length xs) 32 → take n xs ≡ take 32 xs
-clipped xs n e =
-    ⊎_elim
-    (λ lt. take_all n xs (omega arith) ∙ sym (take_all 32 xs (omega arith)))
-    (λ ge. let is : n ≡ 32 = omega arith in ap (λ m. take m xs) is)
-    (cases_lt (length xs) 32)
-
-pub padded_from : (xs ys : List ℕ) (n : ℕ) → n ≡ min (length xs) 32 → ys ≡ take n xs → ys ++ drop n (replicate 32 0) ≡ padded (take 32 xs)
-padded_from xs ys n e f =
-    let long : length (take 32 xs) ≡ n = length-take 32 xs ∙ omega arith in
-    ap (λ zs. zs ++ drop n (replicate 32 0)) (f ∙ clipped xs n e) ∙ ap (λ m. take 32 xs ++ drop m (replicate 32 0)) (sym long)
 
 pub padded_whole : (xs : List ℕ) → length xs ≤ 32 → padded (take 32 xs) ≡ padded xs
 padded_whole xs h = ap padded (take_all 32 xs h)
 
 pub padded_front : (xs : List ℕ) (n : ℕ) → length xs ≡ n → take n (padded xs) ≡ xs
 padded_front xs n e = take_at xs (drop (length xs) (replicate 32 0)) n e
+
+pub length-padded : (xs : List ℕ) → length xs ≤ 32 → length (padded xs) ≡ 32
+length-padded xs h = simp (length-append, length-drop) (omega arith)
+
+zeros_at : (n i : ℕ) → get_or (replicate {A = ℕ} n 0) i 0 ≡ 0
+zeros_at zero i = refl
+zeros_at (suc n) zero = refl
+zeros_at (suc n) (suc i) = zeros_at n i
+
+-- zeros past the end change no place
+pub get_or-padded : (xs : List ℕ) (i : ℕ) → get_or (padded xs) i 0 ≡ get_or xs i 0
+get_or-padded xs i =
+    ⊎_elim
+    (λ lt. get_or_append_left xs (drop (length xs) (replicate 32 0)) 0 i lt)
+    (λ ge. get_or-append_right xs (drop (length xs) (replicate 32 0)) (length xs) i 0 refl ge
+    ∙ get_or-drop (length xs) (replicate 32 0) (i - length xs) 0 ∙ zeros_at 32 (length xs + (i - length xs)) ∙ sym (get_or_past xs i 0 ge))
+    (cases_lt i (length xs))

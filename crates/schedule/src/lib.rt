@@ -1,4 +1,6 @@
-// The key schedule: the key register, from which all round keys of the three variants come.
+//! The key schedule: the key register, from which all round keys of the three variants come.
+
 #![tactic(auto)]
 
 pub mod register;
+pub mod rows;

@@ -1,25 +1,12 @@
-// One worked example through the plain engine of its block length.
+//! One worked example through the plain engine of its block length.
+
 use crate::vectors::Example;
 use cipher::engine::{Engine, KeyFault};
 use halves::Half;
 use plain::Plain;
 use schedule::register::Register;
-use std::alloc::{AllocError, Global};
+use std::alloc::Global;
 use ublock::variant::Variant;
-
-// Bytes in hexadecimal.
-fn hex(heap: Global, bytes: &[u8]) -> Result<String, AllocError> {
-    let mut text = String::new(heap);
-    for b in bytes {
-        text.push(digit(*b / 16))?;
-        text.push(digit(*b % 16))?;
-    }
-    Ok(text)
-}
-
-fn digit(n: u8) -> char {
-    char::from(b"0123456789abcdef"[(n % 16) as usize])
-}
 
 fn verdict(same: bool) -> &'static str {
     if same {
@@ -29,25 +16,21 @@ fn verdict(same: bool) -> &'static str {
     }
 }
 
-// How many of the published round keys the key register gives, step by step.
+// How many of the published round keys are at the front of the key register's rows.
 fn round_keys_alike(variant: Variant, example: &Example) -> Result<usize, KeyFault> {
-    let Some(mut register) = Register::load(variant, example.key.as_slice()) else {
-        return Err(KeyFault::KeyLength);
-    };
-    let mut alike: usize = 0;
-    for (i, published) in example.round_keys.iter().enumerate() {
-        let n = variant.block_len().min(32);
-        if &register.bytes[0..n] == published.as_slice() {
-            alike = alike.saturating_add(1);
-        }
-        let next = register.step(i);
-        register = next;
-    }
-    Ok(alike)
+    let start = Register::load(variant, example.key.as_slice()).ok_or(KeyFault::KeyLength)?;
+    let len = variant.block_len();
+    let rows = start.rows();
+    Ok(
+        rows.iter()
+            .zip(example.round_keys.iter())
+            .filter(|(row, published)| &row.bytes[..len] == published.as_slice())
+            .count(),
+    )
 }
 
 // How many of the published states the engine comes to, round by round.
-fn states_alike<H: Half + Copy>(
+fn states_alike<H: Half>(
     heap: Global,
     engine: &Plain<H>,
     example: &Example,
@@ -96,7 +79,7 @@ fn show(
     published: &Vec<u8>,
 ) -> anyhow::Result<bool> {
     let same = value.as_slice() == published.as_slice();
-    let text = hex(rt.alloc(), value.as_slice())?;
+    let text = hex::encode(rt.alloc(), value.as_slice())?;
     println!(rt; "  {name} {text}, {}", verdict(same))?;
     Ok(same)
 }
@@ -116,7 +99,7 @@ fn heading(rt: &HostRuntime, number: u32, variant: Variant) -> anyhow::Result<()
 }
 
 // Prints what the engine made of the example, and says whether all of it is as published.
-pub(crate) fn examine<H: Half + Copy>(
+pub(crate) fn examine<H: Half>(
     rt: &HostRuntime,
     variant: Variant,
     example: &Example,

@@ -1,5 +1,6 @@
-// Runs the published worked examples of uBlock, read from standard input, through the plain engine, and prints what it
-// did and how it compares. Ends with status 1 where anything is not as published.
+//! Runs the published worked examples of uBlock, read from standard input, through the plain engine, and prints what it
+//! did and how it compares. Ends with status 1 where anything is not as published.
+
 #![tactic(auto)]
 
 mod examine;
@@ -43,7 +44,7 @@ fn run(rt: &HostRuntime) -> anyhow::Result<()> {
 
 // One example, with the engine for its block length.
 fn run_one(rt: &HostRuntime, example: &Example) -> anyhow::Result<bool> {
-    let Some(variant) = Variant::numbered(example.variant) else {
+    let Ok(variant) = Variant::try_from(example.variant) else {
         return Err(anyhow!("an example of no known variant"));
     };
     match variant {

@@ -1,11 +1,12 @@
-// The published worked examples, as they are read: a line for each value, a name and then its bytes in hexadecimal.
+//! The published worked examples, as they are read: a line for each value, a name and then its bytes in hexadecimal.
+
 ghost use Rattle.std.specs.Prelude.{◌<◌, IfOk};
 
 use anyhow::anyhow;
 use std::alloc::Global;
 use std::io::{BufRead, BufReader};
 
-// What is published of one variant under one key.
+/// What is published of one variant under one key.
 #[derive(Drop)]
 pub struct Example {
     pub variant: u32,
@@ -75,6 +76,7 @@ fn enter(heap: Global, examples: &mut Vec<Example>, line: &str) -> anyhow::Resul
     }
 }
 
+// Upper case is refused, which the library's `decode` would take.
 fn digit(c: u8) -> anyhow::Result<u8>
     ensures { IfOk result (λ d. d < 16) }
 {
@@ -88,12 +90,10 @@ fn digit(c: u8) -> anyhow::Result<u8>
 // The bytes that pairs of hexadecimal digits write.
 fn bytes(heap: Global, text: &str) -> anyhow::Result<Vec<u8>> {
     let mut all = Vec::new(heap);
-    let mut left = text.as_bytes();
-    while let [high, low, rest @ ..] = left {
-        all.push(digit(*high)? * 16 + digit(*low)?)?;
-        left = rest;
+    for pair in text.as_bytes().chunks_exact(2) {
+        all.push(digit(pair[0])? * 16 + digit(pair[1])?)?;
     }
-    if !left.is_empty() {
+    if text.len() % 2 == 1 {
         return Err(anyhow!("half a byte"));
     }
     Ok(all)

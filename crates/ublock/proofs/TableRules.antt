@@ -1,7 +1,6 @@
 -- The rules of the tables, each by one computed test.
-use Rattle.std.proofs.Common.{◌≡◌, ℕ, suc, ◌+◌, ◌*◌, ◌/◌, ◌%◌, ◌<◌, Bool, true, false, ◌&&◌, T, eqb, ltb, List, [], ◌∷◌, map, length, get_or, refl, ap, arith, eqb→eq}
+use Rattle.std.proofs.Common.{◌≡◌, ℕ, suc, Bool, true, false, ◌&&◌, T, eqb, ltb, List, [], ◌∷◌, length, get_or, refl, eqb→eq}
 use lib.Bits.{bit_xor}
-use Rattle.std.proofs.lemmas.List.{get_or-map}
 use Rattle.ublock.specs.Cipher.{S, S_inverse, on_nibbles, be4, RC}
 use Rattle.ublock.specs.Tables.{SubstitutionUndone, LayoutsInvertible, occurs, Permutation, PKsPermute, w, ConstantsFromShiftRegister}
 use Rattle.ublock.proofs.Check.{both, all, all_at, agree, bounded}
@@ -13,10 +12,6 @@ substitution_undone = record {
   S_byte = bounded (on_nibbles S) 256 256 tt;
   inverse_byte = bounded (on_nibbles S_inverse) 256 256 tt;
 }
-
--- a byte's nibbles looked up in a table and, for the high one, in the table shifted
-pub looked_up : (table : List ℕ) (b : ℕ) → length table ≡ 16 → b < 256 → get_or (map (λ n. n * 16) table) (b / 16) 0 + get_or table (b % 16) 0 ≡ on_nibbles table b
-looked_up table b l h = ap (λ n. n + get_or table (b % 16) 0) (get_or-map (λ n. n * 16) table (b / 16) 0 0 (omega arith))
 
 pub layouts_invertible : LayoutsInvertible
 layouts_invertible = (

@@ -1,4 +1,5 @@
-// The block cipher uBlock: its definitions and laws (specs/), its tables and its variants.
+//! The block cipher uBlock: its definitions and laws (specs/), its tables and its variants.
+
 #![tactic(auto)]
 
 pub mod laws;

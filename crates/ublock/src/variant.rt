@@ -1,31 +1,53 @@
-// The three variants of the cipher.
-ghost use Rattle.std.specs.Prelude.{◌≡◌};
+//! The three variants of the cipher.
+
+ghost use Rattle.std.specs.Prelude.{◌≡◌, Some};
 ghost use Rattle.ublock.specs.Cipher.{block_length, key_length};
 ghost use Rattle.ublock.specs.Tables.{PKsPermute};
-ghost use Rattle.ublock.specs.Variants.{parameters, numbered};
+ghost use Rattle.ublock.specs.Variants.{parameters, Numbers, unknown_variant_text};
 
-// Named by block and key length in bits.
-#[derive(Clone, Copy)]
+use std::error::Error;
+use std::fmt;
+
+/// A variant, named by block and key length in bits.
+#[derive(Clone, Copy, Debug, PartialEq, Eq, Hash)]
 pub enum Variant {
     Block128Key128,
     Block128Key256,
     Block256Key256,
 }
 
-impl Variant {
-    // The variant of this number, from 1 to 3.
-    pub fn numbered(number: u32) -> Option<Variant>
-        ensures { result ≡ numbered number }
-    {
+/// A number that no variant has.
+#[derive(Clone, Copy, Debug, PartialEq, Eq, Hash)]
+pub struct UnknownVariant(pub u32);
+
+/// The variants are numbered from 1 to 3.
+impl TryFrom<u32> for Variant {
+    type Error = UnknownVariant;
+
+    ghost try_from_gives = { Numbers };
+
+    fn try_from(number: u32) -> Result<Variant, UnknownVariant> {
         match number {
-            1 => Some(Variant::Block128Key128),
-            2 => Some(Variant::Block128Key256),
-            3 => Some(Variant::Block256Key256),
-            _ => None,
+            1 => Ok(Variant::Block128Key128),
+            2 => Ok(Variant::Block128Key256),
+            3 => Ok(Variant::Block256Key256),
+            _ => Err(UnknownVariant(number)),
         }
     }
+}
 
-    // The length of a block in bytes.
+impl fmt::Display for UnknownVariant {
+    ghost output = { λ unknown. Some (unknown_variant_text unknown) };
+
+    fn fmt<W: fmt::Write>(&self, f: &mut fmt::Formatter<W>) -> fmt::Result {
+        write!(f, "no variant has the number {}", self.0)
+    }
+}
+
+impl Error for UnknownVariant {}
+
+impl Variant {
+    /// The length of a block in bytes.
     pub fn block_len(self) -> usize
         ensures { result ≡ block_length (parameters self).layout }
     {
@@ -35,7 +57,7 @@ impl Variant {
         }
     }
 
-    // The length of a key in bytes.
+    /// The length of a key in bytes.
     pub fn key_len(self) -> usize
         ensures { result ≡ key_length (parameters self) }
     {
@@ -45,6 +67,7 @@ impl Variant {
         }
     }
 
+    /// How many rounds there are.
     pub fn rounds(self) -> usize
         ensures { result ≡ (parameters self).round_count }
     {
@@ -54,7 +77,7 @@ impl Variant {
         }
     }
 
-    // The permutation PK of the nibbles of the key register's first half: place i takes nibble PK(i).
+    /// The permutation PK of the nibbles of the key register's first half: place i takes nibble PK(i).
     pub fn nibble_permutation(self) -> &'static [u8]
         ensures value { result.now ≡ (parameters self).PK }
         ensures permutes { PKsPermute }

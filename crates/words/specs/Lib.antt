@@ -1,2 +1,3 @@
 pub mod Words
-pub mod WordBlocks
+pub mod Word
+pub mod Pairs

@@ -1,19 +1,19 @@
--- Bytes in 32-bit words, the highest first.
-use Rattle.std.specs.Prelude.{ℕ, zero, suc, List, [], ◌++◌, slice_index}
+-- Bytes in pieces of four.
+use Rattle.std.specs.Prelude.{◌≡◌, ℕ, ◌+◌, ◌*◌, List, ◌++◌}
+use Rattle.std.proofs.Common.{subst, arith}
 use Rattle.ublock.specs.Cipher.{be4, Halves}
+use Rattle.ublock.specs.Laws.{Block}
+use Rattle.ublock.proofs.Bytes.{block-append}
 
--- the four bytes of a word
+-- the four bytes of a 32-bit number, the highest first
 unfoldable pub word : ℕ → List ℕ
 word n = be4 n
 
--- the bytes of n words of a row, from word i on
-abbrev pub words : ℕ → ℕ → List ℕ → List ℕ
-words zero i row = []
-words (suc n) i row = word (slice_index row i) ++ words n (suc i) row
-
--- the first n words as the left half and the next n as the right one
-abbrev pub both_halves : ℕ → List ℕ → List ℕ
-both_halves n row = words n 0 row ++ words n n row
-
 abbrev pub halves : List ℕ → List ℕ → Halves
 halves l r = record { left = l; right = r }
+
+-- n pieces beside n pieces. The lemma stands here since the proof of a law may cite no other file of its crate.
+pub block_beside : (n : ℕ) (xs ys : List ℕ) → Block (n * 4) xs → Block (n * 4) ys → Block ((n + n) * 4) (xs ++ ys)
+block_beside n xs ys b c =
+    let e : n * 4 + n * 4 ≡ (n + n) * 4 = omega arith in
+    subst (λ m. Block m (xs ++ ys)) e (block-append (n * 4) (n * 4) xs ys b c)

@@ -1,5 +1,7 @@
-// Blocks in 32-bit words: rows of eight, and what the round does to each word by itself.
+//! Rows of bytes in pieces of four, and what the round does to each piece by itself.
+
 #![tactic(auto)]
 
+pub mod pair;
 pub mod pieces;
-pub mod row;
+pub mod word;

@@ -1,27 +1,27 @@
-use Rattle.std.proofs.Common.{◌≡◌, suc, ◌+◌, ◌-◌, ◌++◌, sym, ap, ◌∙◌, arith}
-use Rattle.ublock.specs.Cipher.{inverse_rounds}
+use Rattle.std.proofs.Common.{◌≡◌, ℕ, ◌-◌, ◌<◌, ◌≤◌, List, length, take, ap, ◌∙◌, arith, rules}
+use Rattle.std.proofs.lemmas.Iterator.Adapters.{YieldsList-from_rev_slice}
+use Rattle.std.proofs.lemmas.Iterator.Consumers.{YieldsList-turn}
+use Rattle.std.proofs.lemmas.List.{length_push, length-reverse, length-take-le}
+use Rattle.ublock.specs.Cipher.{inverse_round, inverse_rounds, block_length}
+use Rattle.words.specs.Pairs.{pair_bytes}
 use Rattle.plain.specs.Plains.{row_key}
+use Rattle.plain.proofs.RoundFacts.{undone_more}
+use Rattle.plain.proofs.RowFacts.{row_from_back}
 use Rattle.plain.proofs.Plain.unrounds.Goals as goal
 
-pub loop-j-preserved : goal.loop-j-preserved
-loop-j-preserved g c =
-    let bytes = g.H.Pieces.bytes in
+pub loop-row-preserved : goal.loop-row-preserved
+loop-row-preserved g c =
     let layout = g.H.Half.layout in
-    let rk = row_key g.H.Pieces.count c.args.self.now.rows in
+    let rows = c.args.self.now.rows in
+    let rk = row_key layout rows in
     let n = c.args.n in
-    let j = c.loop-j.j in
-    let k = n - 1 - j in
-    let x = bytes c.loop-j.left ++ bytes c.loop-j.right in
-    let y = bytes c.unround-l.result.0 ++ bytes c.unround-l.result.1 in
-    let e : n - (j + 1) ≡ k = omega arith in
-    let f : n - j ≡ suc k = omega arith in
-    ap (λ m. inverse_rounds layout rk m y) e ∙ ap (inverse_rounds layout rk k) c.unround-l.ensures
-    ∙ sym (ap (λ m. inverse_rounds layout rk m x) f) ∙ c.loop-j.invariant
-
-pub returns : goal.returns
-returns g c =
-    let layout = g.H.Half.layout in
-    let rk = row_key g.H.Pieces.count c.args.self.now.rows in
-    let x = g.H.Pieces.bytes c.loop-j.left ++ g.H.Pieces.bytes c.loop-j.right in
-    let z : c.args.n - c.loop-j.j ≡ 0 = omega arith in
-    sym (ap (λ m. inverse_rounds layout rk m x) z) ∙ c.loop-j.invariant
+    let k = length c.loop-row.yielded in
+    let long : length rows ≡ 25 = search rules in
+    let fits : n ≤ length rows = omega arith in
+    let undone : ℕ → List ℕ = λ m. inverse_rounds layout rk m (pair_bytes g.H.Pieces.bytes c.unround-block.result) in
+    let turn = YieldsList-turn (YieldsList-from_rev_slice (take n rows) (search rules)) c.loop-row.yielded _ c.loop-row.yielded_by _ _ c.in-Some.row c.in-Some.is c.next.ensures.steps in
+    let left : k < n = omega (arith, turn.0, length-reverse (take n rows), length-take-le n rows fits) in
+    let row = row_from_back rows n k c.in-Some.row.now fits left turn.1 in
+    let key = c.round_key.ensures ∙ ap (take (block_length layout)) row in
+    ap (λ m. undone (n - m)) (length_push c.loop-row.yielded c.in-Some.row)
+    ∙ undone_more layout rk n k _ _ _ left (c.unround-block.ensures ∙ ap (λ x. inverse_round layout x (pair_bytes g.H.Pieces.bytes c.loop-row.block)) key) c.loop-row.invariant

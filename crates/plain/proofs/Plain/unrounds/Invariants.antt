@@ -1,9 +1,11 @@
-use Rattle.std.proofs.Common.{◌≡◌, ◌-◌, ◌++◌}
+use Rattle.std.proofs.Common.{◌≡◌, ◌-◌, length}
 use Rattle.ublock.specs.Cipher.{inverse_rounds}
+use Rattle.words.specs.Pairs.{pair_bytes}
 use Rattle.plain.specs.Plains.{row_key}
 use Rattle.plain.proofs.Plain.unrounds.Given as goal
 
-abbrev pub invariant-loop-j : goal.invariant-loop-j
-invariant-loop-j g l =
-    inverse_rounds g.H.Half.layout (row_key g.H.Pieces.count l.self.rows) (l.n - l.j) (g.H.Pieces.bytes l.left ++ g.H.Pieces.bytes l.right)
-    ≡ inverse_rounds g.H.Half.layout (row_key g.H.Pieces.count l.self.rows) l.n (g.H.Pieces.bytes l.initial.left ++ g.H.Pieces.bytes l.initial.right)
+-- the rounds that are left to undo
+abbrev pub invariant-loop-row : goal.invariant-loop-row
+invariant-loop-row g l =
+    let undone = inverse_rounds g.H.Half.layout (row_key g.H.Half.layout l.self.rows) in
+    undone (l.n - length l.yielded) (pair_bytes g.H.Pieces.bytes l.block) ≡ undone l.n (pair_bytes g.H.Pieces.bytes l.initial.block)

@@ -1,6 +1,5 @@
-use Rattle.std.proofs.Common.{refl}
 use Rattle.ublock.proofs.Examples.{examples_hold}
 use Rattle.ublock.proofs.laws.worked_examples.Goals as goal
 
-pub returns : goal.returns
-returns c = record { count = refl; hold = examples_hold }
+pub returns-clause-hold : goal.returns-clause-hold
+returns-clause-hold c = examples_hold

@@ -1,0 +1,86 @@
+//! Two rows of pieces, one after the other.
+
+ghost use Rattle.std.specs.Prelude.{◌≡◌, ◌+◌};
+ghost use Rattle.words.specs.Pairs.{pair_bytes};
+ghost use Rattle.words.specs.Words.{block_beside};
+
+use crate::pieces::Pieces;
+use ublock::tables::Substitution;
+
+/// Two rows of pieces, one after the other: a wider row, or the two halves of a block.
+#[derive(Clone, Copy, Debug, PartialEq, Eq, Hash)]
+pub struct Pair<P> {
+    pub first: P,
+    pub second: P,
+}
+
+impl<P: Pieces> Pieces for Pair<P> {
+    ghost bytes = { pair_bytes P.bytes };
+
+    ghost count = { P.count + P.count };
+
+    ghost whole = { λ x. block_beside P.count (P.bytes x.first) (P.bytes x.second) (P.whole x.first) (P.whole x.second) };
+
+    fn gather(row: &[u8], places: &[u8]) -> Pair<P> {
+        let (front, back) = places.split_at(places.len() / 2);
+        Pair {
+            first: P::gather(row, front),
+            second: P::gather(row, back),
+        }
+    }
+
+    fn read(row: &[u8]) -> Pair<P> {
+        let (front, back) = row.split_at(row.len() / 2);
+        Pair {
+            first: P::read(front),
+            second: P::read(back),
+        }
+    }
+
+    fn write(self, row: &mut [u8]) {
+        let (front, back) = row.split_at_mut(row.len() / 2);
+        self.first.write(front);
+        self.second.write(back);
+    }
+
+    fn xor(self, other: Pair<P>) -> Pair<P> {
+        Pair {
+            first: self.first.xor(other.first),
+            second: self.second.xor(other.second),
+        }
+    }
+
+    fn substitute<T: Substitution>(self) -> Pair<P> {
+        Pair {
+            first: self.first.substitute::<T>(),
+            second: self.second.substitute::<T>(),
+        }
+    }
+
+    fn mix(self, right: Pair<P>) -> Pair<Pair<P>> {
+        halves_of(self.first.mix(right.first), self.second.mix(right.second))
+    }
+
+    fn unmix(self, right: Pair<P>) -> Pair<Pair<P>> {
+        halves_of(
+            self.first.unmix(right.first),
+            self.second.unmix(right.second),
+        )
+    }
+}
+
+// The two halves of a block, of whose fronts `front` has the left and the right one, and `back` of their backs.
+fn halves_of<P>(front: Pair<P>, back: Pair<P>) -> Pair<Pair<P>>
+    ensures { result ≡ record { first = record { first = front.first; second = back.first }; second = record { first = front.second; second = back.second } } }
+{
+    Pair {
+        first: Pair {
+            first: front.first,
+            second: back.first,
+        },
+        second: Pair {
+            first: front.second,
+            second: back.second,
+        },
+    }
+}
