@@ -86,13 +86,41 @@ impl Half for Pair<Pair<Word>> {
     }
 }
 
-/// The half whose bytes are those of `half` at the given places.
-pub fn permuted<H: Half>(half: H, places: &[u8]) -> H
+/// A left half through the byte permutation PL.
+pub fn permute_left<H: Half>(half: H) -> H
+    ensures { H.bytes result ≡ permute H.layout.PL (H.bytes half) }
+{
+    permuted(half, H::permutations().left)
+}
+
+/// A right half through the byte permutation PR.
+pub fn permute_right<H: Half>(half: H) -> H
+    ensures { H.bytes result ≡ permute H.layout.PR (H.bytes half) }
+{
+    permuted(half, H::permutations().right)
+}
+
+/// A left half through the inverse of PL.
+pub fn unpermute_left<H: Half>(half: H) -> H
+    ensures { H.bytes result ≡ permute H.layout.PL_inverse (H.bytes half) }
+{
+    permuted(half, H::permutations().inverse_left)
+}
+
+/// A right half through the inverse of PR.
+pub fn unpermute_right<H: Half>(half: H) -> H
+    ensures { H.bytes result ≡ permute H.layout.PR_inverse (H.bytes half) }
+{
+    permuted(half, H::permutations().inverse_right)
+}
+
+// The half whose bytes are those of `half` at the given places.
+fn permuted<H: Half>(half: H, places: &[u8]) -> H
     requires { length places.now ≡ H.count * 4 }
     ensures { H.bytes result ≡ permute places.now (H.bytes half) }
 {
     let mut row = [0; 16];
     let row = &mut row[..places.len()];
     half.write(row);
-    H::gather(row, places)
+    H::gather(row, places).unwrap()
 }

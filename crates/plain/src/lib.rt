@@ -145,9 +145,7 @@ fn over_block<H: Half, F: FnOnce(Pair<H>) -> Pair<H>>(
     if run.is_empty() {
         return Ok(());
     }
-    if run.len() != H::block_len() {
-        return Err(EngineFault::RunLength);
-    }
-    f(Pair::read(run)).write(run);
+    let block = Pair::read(run).ok_or(EngineFault::RunLength)?;
+    f(block).write(run);
     Ok(())
 }

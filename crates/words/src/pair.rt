@@ -21,26 +21,28 @@ impl<P: Pieces> Pieces for Pair<P> {
 
     ghost whole = { λ x. block_beside P.count (P.bytes x.first) (P.bytes x.second) (P.whole x.first) (P.whole x.second) };
 
-    fn gather(row: &[u8], places: &[u8]) -> Pair<P> {
+    fn gather(row: &[u8], places: &[u8]) -> Option<Pair<P>> {
         let (front, back) = places.split_at(places.len() / 2);
-        Pair {
-            first: P::gather(row, front),
-            second: P::gather(row, back),
-        }
+        Some(Pair {
+            first: P::gather(row, front)?,
+            second: P::gather(row, back)?,
+        })
     }
 
-    fn read(row: &[u8]) -> Pair<P> {
+    fn read(row: &[u8]) -> Option<Pair<P>> {
         let (front, back) = row.split_at(row.len() / 2);
-        Pair {
-            first: P::read(front),
-            second: P::read(back),
-        }
+        Some(Pair {
+            first: P::read(front)?,
+            second: P::read(back)?,
+        })
     }
 
     fn write(self, row: &mut [u8]) {
-        let (front, back) = row.split_at_mut(row.len() / 2);
-        self.first.write(front);
-        self.second.write(back);
+        if row.len() % 2 == 0 {
+            let (front, back) = row.split_at_mut(row.len() / 2);
+            self.first.write(front);
+            self.second.write(back);
+        }
     }
 
     fn xor(self, other: Pair<P>) -> Pair<P> {

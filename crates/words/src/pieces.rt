@@ -1,6 +1,6 @@
 //! Rows of 32-bit pieces: what the round does to each piece by itself, for any number of them.
 
-ghost use Rattle.std.specs.Prelude.{◌≡◌, ℕ, ◌*◌, List, length};
+ghost use Rattle.std.specs.Prelude.{◌≡◌, ◌≢◌, ◌↔◌, ℕ, ◌*◌, List, length, IsSome, IfSome};
 ghost use Rattle.ublock.specs.Cipher.{substitute, xor, permute, mixing, mixed, unmixed};
 ghost use Rattle.ublock.specs.Laws.{Block};
 ghost use Rattle.words.specs.Words.{halves};
@@ -16,20 +16,20 @@ pub trait Pieces: Copy {
     // how many pieces there are
     ghost count: { ℕ };
 
-    /// The bytes of a row at these places; past its end there are zeros.
-    fn gather(row: &[u8], places: &[u8]) -> Self
-        requires { length places.now ≡ count * 4 }
-        ensures { bytes result ≡ permute places.now row.now };
+    /// The bytes of a row at these places, where there are as many as the pieces hold; past the row's end there are zeros.
+    fn gather(row: &[u8], places: &[u8]) -> Option<Self>
+        ensures fits { IsSome result ↔ (length places.now ≡ count * 4) }
+        ensures value { IfSome result (λ x. bytes x ≡ permute places.now row.now) };
 
-    /// The pieces of these bytes.
-    fn read(row: &[u8]) -> Self
-        requires { length row.now ≡ count * 4 }
-        ensures { bytes result ≡ row.now };
+    /// The pieces of these bytes, where there are as many as they hold.
+    fn read(row: &[u8]) -> Option<Self>
+        ensures fits { IsSome result ↔ (length row.now ≡ count * 4) }
+        ensures value { IfSome result (λ x. bytes x ≡ row.now) };
 
-    /// Writes the bytes over a row.
+    /// Writes the bytes over a row that is as long; any other row stays.
     fn write(self, row: &mut [u8])
-        requires { length row.old ≡ count * 4 }
-        ensures { row.new ≡ bytes self };
+        ensures written { length row.old ≡ count * 4 → row.new ≡ bytes self }
+        ensures left_alone { length row.old ≢ count * 4 → row.new ≡ row.old };
 
     fn xor(self, other: Self) -> Self
         ensures { bytes result ≡ xor (bytes self) (bytes other) };

@@ -55,26 +55,34 @@ impl Pieces for Word {
 
     ghost whole = { word_block };
 
-    fn gather(row: &[u8], places: &[u8]) -> Word {
-        Word {
-            a: byte_at(row, places[0]),
-            b: byte_at(row, places[1]),
-            c: byte_at(row, places[2]),
-            d: byte_at(row, places[3]),
-        }
+    fn gather(row: &[u8], places: &[u8]) -> Option<Word> {
+        let [a, b, c, d] = places else {
+            return None;
+        };
+        Some(Word {
+            a: byte_at(row, *a),
+            b: byte_at(row, *b),
+            c: byte_at(row, *c),
+            d: byte_at(row, *d),
+        })
     }
 
-    fn read(row: &[u8]) -> Word {
-        Word {
-            a: row[0],
-            b: row[1],
-            c: row[2],
-            d: row[3],
-        }
+    fn read(row: &[u8]) -> Option<Word> {
+        let [a, b, c, d] = row else {
+            return None;
+        };
+        Some(Word {
+            a: *a,
+            b: *b,
+            c: *c,
+            d: *d,
+        })
     }
 
     fn write(self, row: &mut [u8]) {
-        row.copy_from_slice(&[self.a, self.b, self.c, self.d]);
+        if row.len() == 4 {
+            row.copy_from_slice(&[self.a, self.b, self.c, self.d]);
+        }
     }
 
     fn xor(self, other: Word) -> Word {
