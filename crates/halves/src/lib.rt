@@ -119,6 +119,7 @@ fn permuted<H: Half>(half: H, places: &[u8]) -> H
     requires { length places.now ≡ H.count * 4 }
     ensures { H.bytes result ≡ permute places.now (H.bytes half) }
 {
+    // A half has at most 16 bytes.
     let mut row = [0; 16];
     let row = &mut row[..places.len()];
     half.write(row);

@@ -3,7 +3,7 @@ use Rattle.std.specs.Prelude.{◌≡◌, ℕ, ◌-◌, ◌<◌, ◌≤◌, List,
 use Rattle.std.proofs.Common.{sym, ap, ◌∙◌, arith}
 use Rattle.std.proofs.lemmas.List.{get_or-map, get_or-take, get_or-reverse, length-take-le}
 use Rattle.schedule.specs.Rows.{row_at}
-use Rattle.schedule.specs.declared.rows.Row.{Row}
+use Rattle.schedule.specs.declared.row.Row.{Row}
 
 pub row_from_front : (rows : List Row) (n k : ℕ) (row : Row) → n ≤ length rows → k < n → row ≡ slice_index_or (take n rows) k row → row.bytes ≡ row_at rows k
 row_from_front rows n k row fits h e =

@@ -1,17 +1,13 @@
 -- Runs of no block and of one.
-use Rattle.std.specs.Prelude.{◌≡◌, ℕ, ◌*◌, ◌/◌, ◌%◌, ◌<◌, ◌≤◌, true, false, List, [], ◌∷◌, length, take, Some, ◌≢◌}
-use Rattle.std.proofs.Common.{sym, ap, ◌∙◌, ⊎_elim, mod-eq_of_lt, arith}
+use Rattle.std.specs.Prelude.{◌≡◌, ℕ, ◌*◌, ◌/◌, ◌%◌, ◌<◌, ◌≤◌, false, List, [], ◌∷◌, length, take, Some}
+use Rattle.std.proofs.Common.{sym, ap, ◌∙◌, ⊎_elim, arith}
 use Rattle.std.proofs.Math.Nat.{zero-mod, zero-div, mod_self, div_self}
 use Rattle.std.proofs.lemmas.List.{take_all, append-nil}
-use Rattle.std.proofs.lemmas.Bool.{cases_lt}
 use Rattle.std.proofs.lemmas.Bool.Decides.{nat_tests}
 use Rattle.cipher.specs.Engines.{Shape, Ran, refused, each}
 
 pub length_pos : (b w : ℕ) → Shape b w → 0 < b
 length_pos b w s = ⊎_elim (λ e. omega arith) (λ e. omega arith) s.length_of_block
-
-pub length_small : (b w : ℕ) → Shape b w → b ≤ 32
-length_small b w s = ⊎_elim (λ e. omega arith) (λ e. omega arith) s.length_of_block
 
 accepted : (b w n : ℕ) → n % b ≡ 0 → n ≤ w * b → refused b w n ≡ false
 accepted b w n e h = grind (arith, nat_tests)
@@ -27,15 +23,6 @@ pub ran_none : (b w : ℕ) (f : List ℕ → List ℕ) (run : List ℕ) → leng
 unfolding each
 ran_none b w f [] e = done b w f [] [] (zero-mod b) (omega arith) (ap (λ n. each b f n []) (sym (zero-div b)))
 ran_none b w f (x ∷ xs) e = absurd (omega arith)
-
-one_length : (b n : ℕ) → n % b ≡ 0 → n ≤ b → 0 < n → n ≡ b
-one_length b n e h pos = ⊎_elim (λ lt. let m = mod-eq_of_lt lt in absurd (omega arith)) (λ ge. omega arith) (cases_lt n b)
-
--- a run that is neither empty nor one block is refused where there is one lane
-pub no_block : (b n : ℕ) → (n ≢ 0) → (n ≢ b) → refused b 1 n ≡ true
-no_block b n some other =
-    let odd : n ≤ b → n % b ≡ 0 → ⊥ = λ h e. other (one_length b n e h (omega arith)) in
-    grind (arith, nat_tests, odd)
 
 pub ran_one : (b : ℕ) (f : List ℕ → List ℕ) (run after : List ℕ) → 0 < b → length run ≡ b → after ≡ f run → Ran b 1 f run after (record { value = Some tt; number = 0 })
 unfolding each

@@ -10,7 +10,7 @@ use Rattle.cipher.specs.Engines.{Shape}
 use Rattle.halves.specs.Halves.{Published}
 use Rattle.schedule.specs.Rows.{row_at}
 use Rattle.schedule.proofs.KeyRows.{row_bytes}
-use Rattle.schedule.specs.declared.rows.Row.{Row}
+use Rattle.schedule.specs.declared.row.Row.{Row}
 use Rattle.plain.specs.Plains.{row_key}
 
 -- both layouts have byte permutations with inverses

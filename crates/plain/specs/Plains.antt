@@ -3,8 +3,10 @@ use Rattle.std.specs.Prelude.{◌≡◌, ℕ, ◌≤◌, List, take, Some}
 use Rattle.ublock.specs.Cipher.{Layout, block_length, RK, encipher, decipher}
 use Rattle.ublock.specs.Variants.{parameters, numbered}
 use Rattle.ublock.specs.declared.variant.Variant.{Variant}
+use Rattle.words.specs.Pairs.{pair_bytes}
+use Rattle.words.specs.declared.pair.Pair.{Pair}
 use Rattle.schedule.specs.Rows.{row_at}
-use Rattle.schedule.specs.declared.rows.Row.{Row}
+use Rattle.schedule.specs.declared.row.Row.{Row}
 
 -- round key j: a block at the front of row j
 abbrev pub row_key : Layout → List Row → ℕ → List ℕ
@@ -20,3 +22,7 @@ plain_E l rows v x = encipher l (row_key l rows) (parameters v).round_count x
 
 abbrev pub plain_D : Layout → List Row → Variant → List ℕ → List ℕ
 plain_D l rows v y = decipher l (row_key l rows) (parameters v).round_count y
+
+-- whatever comes of a block, its bytes are g of the block's bytes
+abbrev pub Computes : {H : Type 0} → (H → List ℕ) → (Pair H → Pair H → Type 0) → (List ℕ → List ℕ) → Type 0
+Computes {H} bytes results g = (x y : Pair H) → results x y → pair_bytes bytes y ≡ g (pair_bytes bytes x)

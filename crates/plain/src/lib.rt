@@ -10,7 +10,7 @@ ghost use Rattle.ublock.specs.Variants.{parameters};
 ghost use Rattle.cipher.specs.Engines.{Ran, engine_answer};
 ghost use Rattle.cipher.specs.Keys.{Filled, key_answer};
 ghost use Rattle.words.specs.Pairs.{pair_bytes};
-ghost use Rattle.plain.specs.Plains.{row_key, plain_E, plain_D, HoldRoundKeys};
+ghost use Rattle.plain.specs.Plains.{row_key, plain_E, plain_D, HoldRoundKeys, Computes};
 ghost use Rattle.plain.specs.Lawful.{one_lane_shape, invertible_of, row_key_bytes};
 ghost use Rattle.ublock.proofs.Rounds.{cipher_permutes};
 
@@ -18,14 +18,14 @@ use cipher::engine::{Engine, EngineFault, KeyFault};
 use halves::Half;
 use rounds::{round, round_key, unround};
 use schedule::register::Register;
-use schedule::rows::Row;
+use schedule::row::Row;
 use std::marker::PhantomData;
 use ublock::variant::Variant;
 use words::pair::Pair;
 use words::pieces::Pieces;
 
-/// An engine of the variant; row j begins with round key j.
-#[derive(Clone, Copy, Debug, PartialEq, Eq)]
+/// An engine of the variant; row j begins with round key j. It holds the key, so it is not printed or compared by `==`.
+#[derive(Clone, Copy)]
 pub struct Plain<H> {
     variant: Variant,
     rows: [Row; 25],
@@ -134,13 +134,14 @@ impl<H: Half> Engine for Plain<H> {
     }
 }
 
-// Replaces the block of a run by what `f` makes of it. An empty run stays, and a run of another length is refused.
+// Replaces the block of a run by what `f` makes of it, whatever function of bytes that is. An empty run stays, and a run of
+// another length is refused.
 fn over_block<H: Half, F: FnOnce(Pair<H>) -> Pair<H>>(
     run: &mut [u8],
     f: F,
 ) -> Result<(), EngineFault>
     requires { F.IsAlwaysCallable f }
-    ensures { (g : List ℕ → List ℕ) → ((x y : Pair H) → F.post f x y → pair_bytes H.bytes y ≡ g (pair_bytes H.bytes x)) → Ran (block_length H.layout) 1 g run.old run.new (engine_answer result) }
+    ensures { (g : List ℕ → List ℕ) → Computes H.bytes (F.post f) g → Ran (block_length H.layout) 1 g run.old run.new (engine_answer result) }
 {
     if run.is_empty() {
         return Ok(());

@@ -5,7 +5,7 @@ ghost use Rattle.ublock.specs.Cipher.{round, inverse_round, block_length};
 ghost use Rattle.words.specs.Pairs.{pair_bytes};
 
 use halves::{Half, permute_left, permute_right, unpermute_left, unpermute_right};
-use schedule::rows::Row;
+use schedule::row::Row;
 use ublock::tables::{InverseSbox, Sbox};
 use words::pair::Pair;
 use words::pieces::Pieces;

@@ -3,4 +3,4 @@
 #![tactic(auto)]
 
 pub mod register;
-pub mod rows;
+pub mod row;

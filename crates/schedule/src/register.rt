@@ -6,12 +6,12 @@ ghost use Rattle.schedule.specs.Registers.{padded};
 ghost use Rattle.schedule.specs.Rows.{HoldRegisters};
 ghost use Rattle.ublock.specs.Variants.{parameters};
 
-use crate::rows::Row;
+use crate::row::Row;
 use ublock::tables::{Sbox, Substitution, double, round_constant};
 use ublock::variant::Variant;
 
 /// The register of a variant's key schedule: as many bytes as its key has. `load` and `step` leave zeros after them.
-#[derive(Clone, Copy, Debug, PartialEq, Eq)]
+#[derive(Clone, Copy)]
 pub struct Register {
     pub variant: Variant,
     pub bytes: [u8; 32],
@@ -36,7 +36,7 @@ impl Register {
         ensures variant { result.variant ≡ self.variant }
         ensures bytes { result.bytes ≡ padded (key_step (parameters self.variant).PK (parameters self.variant).quarter (slice_index RC taken) (take (key_length (parameters self.variant)) self.bytes)) }
     {
-        let quarter = self.quarter();
+        let quarter = self.quarter_len();
         let front = self.permuted_front();
         let constant = padded(&round_constant(taken).to_be_bytes());
         let (k0, k1) = front[..quarter * 2].split_at(quarter);
@@ -55,10 +55,9 @@ impl Register {
         }
     }
 
-    /// The rows of all round keys: row j is the register after j steps. Rows past the last round's may hold anything.
+    /// The rows of all round keys: row j is the register after j steps, up to the last round's; later rows are the first again.
     pub fn rows(self) -> [Row; 25]
-        ensures { let p = parameters self.variant in
-            HoldRegisters p (take (key_length p) self.bytes) result }
+        ensures { HoldRegisters (parameters self.variant) self.bytes 25 result }
     {
         let mut state = self;
         let mut rows = [self.row(); 25];
@@ -78,7 +77,7 @@ impl Register {
     }
 
     // A quarter of the register in bytes.
-    fn quarter(self) -> usize
+    fn quarter_len(self) -> usize
         ensures value { result ≡ (parameters self.variant).quarter }
         ensures small { result ≤ 8 }
     {

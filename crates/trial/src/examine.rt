@@ -16,17 +16,18 @@ fn verdict(same: bool) -> &'static str {
     }
 }
 
-// How many of the published round keys are at the front of the key register's rows.
+// How many of the published round keys the key register gives, step by step.
 fn round_keys_alike(variant: Variant, example: &Example) -> Result<usize, KeyFault> {
-    let start = Register::load(variant, example.key.as_slice()).ok_or(KeyFault::KeyLength)?;
+    let mut register = Register::load(variant, example.key.as_slice()).ok_or(KeyFault::KeyLength)?;
     let len = variant.block_len();
-    let rows = start.rows();
-    Ok(
-        rows.iter()
-            .zip(example.round_keys.iter())
-            .filter(|(row, published)| &row.bytes[..len] == published.as_slice())
-            .count(),
-    )
+    let mut alike: usize = 0;
+    for (taken, published) in example.round_keys.iter().enumerate() {
+        if &register.bytes[..len] == published.as_slice() {
+            alike = alike.saturating_add(1);
+        }
+        register = register.step(taken);
+    }
+    Ok(alike)
 }
 
 // How many of the published states the engine comes to, round by round.
@@ -72,14 +73,9 @@ fn run<E: Engine>(heap: Global, engine: &E, plain: &[u8]) -> anyhow::Result<Outc
 }
 
 // Prints a value beside the published one, and says whether they are the same.
-fn show(
-    rt: &HostRuntime,
-    name: &str,
-    value: &Vec<u8>,
-    published: &Vec<u8>,
-) -> anyhow::Result<bool> {
-    let same = value.as_slice() == published.as_slice();
-    let text = hex::encode(rt.alloc(), value.as_slice())?;
+fn show(rt: &HostRuntime, name: &str, value: &[u8], published: &[u8]) -> anyhow::Result<bool> {
+    let same = value == published;
+    let text = hex::encode(rt.alloc(), value)?;
     println!(rt; "  {name} {text}, {}", verdict(same))?;
     Ok(same)
 }
@@ -90,7 +86,8 @@ fn count(rt: &HostRuntime, name: &str, alike: usize, all: usize) -> anyhow::Resu
     Ok(alike == all)
 }
 
-fn heading(rt: &HostRuntime, number: u32, variant: Variant) -> anyhow::Result<()> {
+fn heading(rt: &HostRuntime, variant: Variant, example: &Example) -> anyhow::Result<()> {
+    let number = example.variant;
     let block = variant.block_len();
     let key = variant.key_len();
     let rounds = variant.rounds();
@@ -105,7 +102,7 @@ pub(crate) fn examine<H: Half>(
     example: &Example,
 ) -> anyhow::Result<bool> {
     let engine = Plain::<H>::fill(example.variant, example.key.as_slice())?;
-    heading(rt, example.variant, variant)?;
+    heading(rt, variant, example)?;
     let keys = round_keys_alike(variant, example)?;
     let states = states_alike(rt.alloc(), &engine, example)?;
     let outcome = run(rt.alloc(), &engine, example.plain.as_slice())?;
@@ -116,13 +113,23 @@ pub(crate) fn examine<H: Half>(
 }
 
 fn show_outcome(rt: &HostRuntime, outcome: &Outcome, example: &Example) -> anyhow::Result<bool> {
-    let once = show(rt, "enciphered", &outcome.enciphered, &example.cipher)?;
-    let back = show(rt, "deciphered", &outcome.deciphered, &example.plain)?;
+    let once = show(
+        rt,
+        "enciphered",
+        outcome.enciphered.as_slice(),
+        example.cipher.as_slice(),
+    )?;
+    let back = show(
+        rt,
+        "deciphered",
+        outcome.deciphered.as_slice(),
+        example.plain.as_slice(),
+    )?;
     let million = show(
         rt,
         "enciphered a million times",
-        &outcome.million,
-        &example.million,
+        outcome.million.as_slice(),
+        example.million.as_slice(),
     )?;
     Ok(once && back && million)
 }

@@ -44,9 +44,9 @@ fn run(rt: &HostRuntime) -> anyhow::Result<()> {
 
 // One example, with the engine for its block length.
 fn run_one(rt: &HostRuntime, example: &Example) -> anyhow::Result<bool> {
-    let Ok(variant) = Variant::try_from(example.variant) else {
-        return Err(anyhow!("an example of no known variant"));
-    };
+    let variant = Variant::try_from(example.variant).map_err(|_| anyhow!(
+        "an example of no known variant"
+    ))?;
     match variant {
         Variant::Block128Key128 | Variant::Block128Key256 => examine::<Narrow>(
             rt, variant, example,

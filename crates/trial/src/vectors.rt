@@ -76,7 +76,7 @@ fn enter(heap: Global, examples: &mut Vec<Example>, line: &str) -> anyhow::Resul
     }
 }
 
-// Upper case is refused, which the library's `decode` would take.
+// Upper case is refused, which `hex::decode` would take.
 fn digit(c: u8) -> anyhow::Result<u8>
     ensures { IfOk result (λ d. d < 16) }
 {

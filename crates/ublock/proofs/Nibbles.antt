@@ -1,7 +1,7 @@
 -- Nibbles of bytes, and bytes of nibbles, by place.
-use Rattle.std.proofs.Common.{◌≡◌, ℕ, zero, suc, ◌+◌, ◌*◌, ◌/◌, ◌%◌, ◌<◌, List, [], ◌∷◌, length, get_or, sym, refl, ap, ◌∙◌, subst, arith}
+use Rattle.std.proofs.Common.{◌≡◌, ℕ, zero, suc, ◌*◌, ◌/◌, ◌%◌, ◌<◌, List, [], ◌∷◌, length, get_or, refl, ap, ◌∙◌, subst, arith}
 use lib.Lanes.{Each1}
-use Rattle.std.proofs.lemmas.List.{get_or-map, length-map}
+use Rattle.std.proofs.lemmas.List.{length-map}
 use Rattle.ublock.specs.Cipher.{nibbles, paired, permute}
 use Rattle.ublock.specs.Laws.{Bytes}
 
@@ -18,13 +18,6 @@ nibbles_low [] j = refl
 nibbles_low (x ∷ xs) zero = refl
 nibbles_low (x ∷ xs) (suc j) = subst (λ n. get_or (nibbles (x ∷ xs)) (suc n) 0 ≡ get_or xs j 0 % 16) (twice_suc j) (nibbles_low xs j)
 
-paired_at : (ys : List ℕ) (j : ℕ) → j * 2 + 1 < length ys → get_or (paired ys) j 0 ≡ get_or ys (j * 2) 0 * 16 + get_or ys (suc (j * 2)) 0
-paired_at [] j h = absurd (omega arith)
-paired_at (x ∷ []) j h = absurd (omega arith)
-paired_at (x ∷ y ∷ ys) zero h = refl
-paired_at (x ∷ y ∷ ys) (suc j) h =
-    subst (λ n. get_or (paired ys) j 0 ≡ get_or (x ∷ y ∷ ys) n 0 * 16 + get_or (x ∷ y ∷ ys) (suc n) 0) (twice_suc j) (paired_at ys j (omega arith))
-
 pub length-paired : (ys : List ℕ) (n : ℕ) → length ys ≡ n * 2 → length (paired ys) ≡ n
 length-paired [] n e = omega arith
 length-paired (x ∷ []) n e = absurd (omega arith)
@@ -33,18 +26,6 @@ length-paired (x ∷ y ∷ ys) (suc n) e = ap suc (length-paired ys n (omega ari
 
 pub length_picked : (ks xs : List ℕ) (n : ℕ) → length ks ≡ n * 2 → length (paired (permute ks (nibbles xs))) ≡ n
 length_picked ks xs n e = length-paired (permute ks (nibbles xs)) n (length-map ks (λ k. get_or (nibbles xs) k 0) ∙ e)
-
--- byte j of the nibbles that are picked, from its two nibbles
-pub picked_at : (ks xs : List ℕ) (j h l : ℕ) → j * 2 + 1 < length ks
-    → h ≡ get_or (nibbles xs) (get_or ks (j * 2) 0) 0 → l ≡ get_or (nibbles xs) (get_or ks (j * 2 + 1) 0) 0
-    → h * 16 + l ≡ get_or (paired (permute ks (nibbles xs))) j 0
-picked_at ks xs j h l lt eh el =
-    let f = length-map ks (λ k. get_or (nibbles xs) k 0) in
-    let s : j * 2 + 1 ≡ suc (j * 2) = omega arith in
-    ap (λ n. n * 16 + l) eh ∙ ap (λ n. get_or (nibbles xs) (get_or ks (j * 2) 0) 0 * 16 + n) (el ∙ ap (λ n. get_or (nibbles xs) (get_or ks n 0) 0) s)
-    ∙ sym (paired_at (permute ks (nibbles xs)) j (omega (arith, f))
-    ∙ ap (λ n. n * 16 + get_or (permute ks (nibbles xs)) (suc (j * 2)) 0) (get_or-map (λ k. get_or (nibbles xs) k 0) ks (j * 2) 0 0 (omega arith))
-    ∙ ap (λ n. get_or (nibbles xs) (get_or ks (j * 2) 0) 0 * 16 + n) (get_or-map (λ k. get_or (nibbles xs) k 0) ks (suc (j * 2)) 0 0 (omega arith)))
 
 -- ---- bytes have nibbles, and nibbles make bytes
 pub nibbles_small : (xs : List ℕ) → Bytes xs → Each1 (λ n. n < 16) (nibbles xs)

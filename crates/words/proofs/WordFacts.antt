@@ -1,5 +1,5 @@
 -- A 32-bit word as its four bytes.
-use Rattle.std.specs.Prelude.{◌≡◌, ℕ, zero, suc, ◌+◌, ◌-◌, ◌*◌, ◌/◌, ◌%◌, ◌^◌, ◌<◌, List, [], ◌∷◌, ◌++◌, bit_or, bit_xor, refl}
+use Rattle.std.specs.Prelude.{◌≡◌, ℕ, zero, suc, ◌+◌, ◌-◌, ◌*◌, ◌/◌, ◌%◌, ◌^◌, ◌<◌, List, [], ◌∷◌, ◌++◌, bit_or, bit_xor}
 use Rattle.std.proofs.Common.{sym, ap, subst, ◌∙◌, add-zero, arith}
 use Rattle.std.proofs.Math.Nat.{mul-mod_left}
 use Rattle.std.specs.Int.Bits.{or_self}
@@ -13,10 +13,6 @@ four : {a b c d a' b' c' d' : ℕ} → a ≡ a' → b ≡ b' → c ≡ c' → d 
 four e f g h = cc
 
 -- ---- bytes and words
-pub word_by_shifts : (n : ℕ) → n < 2 ^ 32 → ◌≡◌ {A = List ℕ} ((n / 2 ^ 24) ∷ (n / 2 ^ 16 % 256) ∷ (n / 2 ^ 8 % 256) ∷ (n % 256) ∷ []) (word n)
-unfolding word
-word_by_shifts n h = four (omega arith) refl refl refl
-
 pub word_of_bytes : (a b c d n : ℕ) → a < 256 → b < 256 → c < 256 → d < 256 → n ≡ a * 16777216 + b * 65536 + c * 256 + d → word n ≡ a ∷ b ∷ c ∷ d ∷ []
 unfolding word
 word_of_bytes a b c d n ha hb hc hd e = four (omega arith) (omega arith) (omega arith) (omega arith)

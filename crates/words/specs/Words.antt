@@ -12,7 +12,7 @@ word n = be4 n
 abbrev pub halves : List ℕ → List ℕ → Halves
 halves l r = record { left = l; right = r }
 
--- n pieces beside n pieces. The lemma stands here since the proof of a law may cite no other file of its crate.
+-- n pieces beside n pieces. The lemma stands here since the proof of a law may cite no file of its crate but those of specs/.
 pub block_beside : (n : ℕ) (xs ys : List ℕ) → Block (n * 4) xs → Block (n * 4) ys → Block ((n + n) * 4) (xs ++ ys)
 block_beside n xs ys b c =
     let e : n * 4 + n * 4 ≡ (n + n) * 4 = omega arith in

@@ -71,7 +71,7 @@ impl<P: Pieces> Pieces for Pair<P> {
     }
 }
 
-// The two halves of a block, of whose fronts `front` has the left and the right one, and `back` of their backs.
+// From the mixed fronts and the mixed backs of two halves, the two halves.
 fn halves_of<P>(front: Pair<P>, back: Pair<P>) -> Pair<Pair<P>>
     ensures { result ≡ record { first = record { first = front.first; second = back.first }; second = record { first = front.second; second = back.second } } }
 {

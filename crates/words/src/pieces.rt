@@ -31,6 +31,7 @@ pub trait Pieces: Copy {
         ensures written { length row.old ≡ count * 4 → row.new ≡ bytes self }
         ensures left_alone { length row.old ≢ count * 4 → row.new ≡ row.old };
 
+    /// The exclusive or of both.
     fn xor(self, other: Self) -> Self
         ensures { bytes result ≡ xor (bytes self) (bytes other) };
 

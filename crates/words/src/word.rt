@@ -20,19 +20,15 @@ pub struct Word {
     pub ghost of_bytes: { (a < 256) × ((b < 256) × ((c < 256) × (d < 256))) },
 }
 
+/// The highest byte first.
 impl From<u32> for Word {
     ghost use Rattle.words.specs.Word.{word_bytes};
 
     ghost from_gives = { λ n w. word_bytes w ≡ word n };
 
-    // By shifts: with to_be_bytes, which swaps the bytes in a register, deciphering was slower.
     fn from(n: u32) -> Word {
-        Word {
-            a: (n >> 24) as u8,
-            b: ((n >> 16) % 256) as u8,
-            c: ((n >> 8) % 256) as u8,
-            d: (n % 256) as u8,
-        }
+        let [a, b, c, d] = n.to_be_bytes();
+        Word { a, b, c, d }
     }
 }
 

@@ -1,9 +1,9 @@
-//! Rows of bytes.
+//! A row of bytes.
 
 ghost use Rattle.std.specs.Prelude.{ℕ, ◌<◌, slice_index};
 
 /// A row of bytes that a round key is the front of.
-#[derive(Clone, Copy, Debug, PartialEq, Eq)]
+#[derive(Clone, Copy)]
 pub struct Row {
     pub bytes: [u8; 32],
 
