@@ -1,0 +1,3 @@
+mod Blocks
+mod Sums
+mod Passes

@@ -1,0 +1,45 @@
+//! A fixed value that is added to blocks.
+
+ghost use Rattle.std.specs.Prelude.{◌≡◌, ℕ, ◌<◌, ◌≤◌, length, slice_index};
+ghost use Rattle.ublock.specs.Cipher.{xor};
+ghost use Rattle.layers.specs.Layers.{added_to_blocks};
+
+/// A value of 32 bytes, the first of which are added to a block by exclusive or: as many as the block has.
+#[derive(Clone, Copy)]
+pub struct FixedValue {
+    bytes: [u8; 32],
+
+    // each entry is a byte, which a law over all values could not tell from the type alone
+    pub ghost of_bytes: { (k : ℕ) → slice_index bytes k < 256 },
+}
+
+impl From<[u8; 32]> for FixedValue {
+    ghost from_gives = { λ bytes value. value.bytes ≡ bytes };
+
+    fn from(bytes: [u8; 32]) -> FixedValue {
+        FixedValue { bytes }
+    }
+}
+
+impl FixedValue {
+    /// Adds the first `b` bytes to each whole block of `b` bytes of a run.
+    pub(crate) fn add_to_blocks(&self, b: usize, run: &mut [u8])
+        requires positive { 0 < b }
+        requires fits { b ≤ 32 }
+        ensures { run.new ≡ added_to_blocks b self.now.bytes run.old }
+    {
+        for i in 0..run.len() / b {
+            add(&self.bytes[..b], &mut run[i * b..(i + 1) * b]);
+        }
+    }
+}
+
+// Adds bytes to a block of as many.
+fn add(bytes: &[u8], block: &mut [u8])
+    requires { length block.old ≡ length bytes.now }
+    ensures { block.new ≡ xor block.old bytes.now }
+{
+    for i in 0..block.len() {
+        block[i] ^= bytes[i];
+    }
+}

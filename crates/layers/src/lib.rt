@@ -1,0 +1,7 @@
+//! Layers over an engine: each is an engine again, and so is any pile of them.
+
+#![tactic(auto)]
+
+pub mod cascade;
+pub mod fixed;
+pub mod whitening;
