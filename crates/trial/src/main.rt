@@ -4,6 +4,8 @@
 #![tactic(auto)]
 
 mod examine;
+#[cfg(test)]
+mod piles;
 mod vectors;
 
 use anyhow::anyhow;
