@@ -28,6 +28,7 @@ impl FixedValue {
         requires fits { b ≤ 32 }
         ensures { run.new ≡ added_to_blocks b self.now.bytes run.old }
     {
+        // by index: of what is written through `chunks_exact_mut` a proof knows nothing
         for i in 0..run.len() / b {
             add(&self.bytes[..b], &mut run[i * b..(i + 1) * b]);
         }
@@ -39,7 +40,7 @@ fn add(bytes: &[u8], block: &mut [u8])
     requires { length block.old ≡ length bytes.now }
     ensures { block.new ≡ xor block.old bytes.now }
 {
-    for i in 0..block.len() {
-        block[i] ^= bytes[i];
+    for (i, byte) in block.iter_mut().enumerate() {
+        *byte ^= bytes[i];
     }
 }
