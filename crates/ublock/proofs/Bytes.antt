@@ -102,7 +102,7 @@ pub bounded-permute : (m : ℕ) → 0 < m → (ks xs : List ℕ) → Each1 (λ x
 bounded-permute m pos [] xs t = tt
 bounded-permute m pos (k ∷ ks) xs t = (element m pos xs k t, bounded-permute m pos ks xs t)
 
-permute-permute : (xs ps qs : List ℕ) → T (all_below (length ps) qs) → permute qs (permute ps xs) ≡ permute (permute qs ps) xs
+pub permute-permute : (xs ps qs : List ℕ) → T (all_below (length ps) qs) → permute qs (permute ps xs) ≡ permute (permute qs ps) xs
 permute-permute xs ps [] t = refl
 permute-permute xs ps (q ∷ qs) t =
     let ts = both (ltb q (length ps)) (all_below (length ps) qs) t in
