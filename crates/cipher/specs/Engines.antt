@@ -1,5 +1,6 @@
 -- What an engine is, and what its calls answer and leave.
 use Rattle.std.specs.Prelude.{◌≡◌, ℕ, zero, suc, ◌*◌, ◌/◌, ◌%◌, ◌≤◌, Bool, cond, not, ◌||◌, ◌⊎◌, List, [], ◌++◌, length, take, drop, Some, None, Ok, Err, codes, Option, Result, ◌==◌, nat_lt}
+use Rattle.ublock.specs.Laws.{Block}
 use Rattle.cipher.specs.declared.engine.EngineFault.{EngineFault}
 use Rattle.cipher.specs.declared.engine.EngineFault.TheVariants.{RunLength}
 
@@ -34,3 +35,8 @@ refused b w n = not (n % b == 0) || nat_lt (w * b) n
 pub record Ran (b w : ℕ) (f : List ℕ → List ℕ) (before after : List ℕ) (answer : Answer Unit) : Type 0 where
   pub number : answer.number ≡ cond (refused b w (length before)) 4 0
   pub run : after ≡ cond (refused b w (length before)) before (each b f (length before / b) before)
+
+-- two engines of blocks of b bytes mean one permutation: both take every block to the same block, there and back
+pub record OnePermutation (b : ℕ) (enc dec enc' dec' : List ℕ → List ℕ) : Type 0 where
+  pub enciphered : (x : List ℕ) → Block b x → enc x ≡ enc' x
+  pub deciphered : (x : List ℕ) → Block b x → dec x ≡ dec' x

@@ -1,5 +1,2 @@
-mod Layouts
-mod Runs
-mod RoundFacts
-mod RowFacts
-mod KeyRows
+pub mod RoundFacts
+pub mod Layouts

@@ -1,2 +1,1 @@
-pub mod Plains
 pub mod Lawful

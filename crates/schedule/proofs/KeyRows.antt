@@ -56,7 +56,7 @@ rows_past row (r ∷ rows) n (suc zero) l h = absurd (omega arith)
 rows_past row (r ∷ rows) n (suc (suc j)) l h = rows_past row rows n (suc j) (omega arith) (omega arith)
 
 -- each row is of bytes, whichever it is
-bytes_from : (xs : List ℕ) → ((k : ℕ) → get_or xs k 0 < 256) → Bytes xs
+pub bytes_from : (xs : List ℕ) → ((k : ℕ) → get_or xs k 0 < 256) → Bytes xs
 bytes_from [] h = tt
 bytes_from (x ∷ xs) h = (h 0, bytes_from xs (λ k. h (suc k)))
 

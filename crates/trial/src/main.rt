@@ -1,19 +1,21 @@
-//! Runs the published worked examples of uBlock, read from standard input, through the plain engine, and prints what it
-//! did and how it compares. Ends with status 1 where anything is not as published.
+//! Runs the published worked examples of uBlock, read from standard input, through both engines and through layers over
+//! them, and prints what it did and how it compares. Ends with status 1 where anything is not as published.
 
 #![tactic(auto)]
 
 mod examine;
+mod lineup;
+mod pile;
 #[cfg(test)]
 mod piles;
-mod vectors;
+mod published;
 
 use anyhow::anyhow;
 use examine::examine;
 use halves::{Narrow, Wide};
+use published::Example;
 use ublock::laws;
 use ublock::variant::Variant;
-use vectors::Example;
 
 fn main(rt: HostRuntime) -> anyhow::Result<()> {
     run(&rt)
@@ -24,7 +26,7 @@ fn run(rt: &HostRuntime) -> anyhow::Result<()> {
         "{} worked examples of the definitions are proved",
         laws::worked_examples()
     )?;
-    let examples = vectors::read(rt)?;
+    let examples = published::read(rt)?;
     if examples.is_empty() {
         return Err(anyhow!("no examples on standard input"));
     }

@@ -3,3 +3,4 @@ pub mod Laws
 pub mod Tables
 pub mod Examples
 pub mod Variants
+pub mod Parts

@@ -12,7 +12,8 @@ use Rattle.ublock.proofs.Check.{both}
 use Rattle.ublock.proofs.Rounds.{round_of, inverse_round_of}
 use Rattle.words.specs.Words.{halves}
 use Rattle.halves.specs.Halves.{Published}
-use Rattle.vectors.specs.Vectors.{part, InLanes}
+use Rattle.ublock.specs.Parts.{part}
+use Rattle.vectors.specs.Vectors.{InLanes}
 
 pub length-part : (m i n : ℕ) (xs : List ℕ) → i < n → length xs ≡ n * m → length (part m i xs) ≡ m
 length-part m i n xs h l =

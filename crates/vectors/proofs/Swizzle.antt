@@ -8,7 +8,8 @@ use Rattle.ublock.specs.Laws.{Bytes}
 use Rattle.ublock.proofs.Check.{all, all_at}
 use Rattle.ublock.proofs.Bytes.{permute-permute, permute_back, bounded-permute}
 use Rattle.ublock.proofs.TableRules.{same, same_equal}
-use Rattle.vectors.specs.Vectors.{word64, vector_bytes, part, InLanes}
+use Rattle.ublock.specs.Parts.{part}
+use Rattle.vectors.specs.Vectors.{word64, vector_bytes, InLanes}
 use Rattle.vectors.proofs.Words.{Vector, length_vector}
 use Rattle.vectors.proofs.Digits.{digits_each, digits_l-number_l, digits_each-digits_l, digits_l-below}
 use Rattle.vectors.proofs.Parts.{part-permute}

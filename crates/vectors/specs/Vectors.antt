@@ -1,5 +1,6 @@
 -- Vectors of 64-bit words, each the list of its words, as the rows of bytes that they stand for.
-use Rattle.std.specs.Prelude.{◌≡◌, ℕ, ◌*◌, ◌/◌, ◌%◌, ◌<◌, List, [], ◌∷◌, ◌++◌, take, drop}
+use Rattle.std.specs.Prelude.{◌≡◌, ℕ, ◌/◌, ◌%◌, ◌<◌, List, [], ◌∷◌, ◌++◌}
+use Rattle.ublock.specs.Parts.{part}
 use Rattle.ublock.specs.Cipher.{be4, permute}
 
 -- the eight bytes of a 64-bit number, the highest first
@@ -10,10 +11,6 @@ word64 n = be4 (n / 4294967296) ++ be4 n
 abbrev pub vector_bytes : List ℕ → List ℕ
 vector_bytes [] = []
 vector_bytes (w ∷ ws) = word64 w ++ vector_bytes ws
-
--- part i of a row that is cut into parts of m
-abbrev pub part : ℕ → ℕ → List ℕ → List ℕ
-part m i xs = take m (drop (i * m) xs)
 
 -- each of the n parts of m bytes has gone through the permutation
 abbrev pub InLanes : ℕ → ℕ → List ℕ → List ℕ → List ℕ → Type 0

@@ -1,0 +1,5 @@
+mod RowFacts
+mod RoundFacts
+pub mod Runs
+mod KeyRows
+mod Layouts

@@ -1,0 +1,17 @@
+use Rattle.std.proofs.Common.{◌≡◌, false, length, rules}
+use Rattle.ublock.specs.Cipher.{block_length}
+use Rattle.cipher.specs.Engines.{refused}
+use Rattle.keyed.specs.Keyeds.{keyed_D}
+use Rattle.keyed.proofs.Runs.{ran_lanes}
+use Rattle.keyed.proofs.engine.KeyedEngine.decipher.Goals as goal
+
+pub returns : goal.returns
+returns g c =
+    let B = g.B.Bundle in
+    let engine = c.args.self.now in
+    let b = block_length B.layout in
+    let run = c.args.run.now in
+    let fine : refused b B.lane_count (length run) ≡ false = search rules in
+    let loaded = rw c.in_ok-bundle.ensures.ok_part at c.load.ensures.blocks in
+    ran_lanes b B.lane_count (keyed_D g.R.KeyRow.key_bytes B.layout engine.rows engine.variant) run _
+    (B.lane c.in_ok-bundle.bundle) (B.lane c.deciphered.result) g.met.B.Bundle.shaped fine loaded c.deciphered.ensures c.store.ensures.length (c.store.ensures.blocks fine)

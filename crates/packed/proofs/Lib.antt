@@ -1,0 +1,3 @@
+mod Arranged
+mod Parts
+mod Words

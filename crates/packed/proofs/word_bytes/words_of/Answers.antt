@@ -1,0 +1,12 @@
+use Rattle.std.proofs.Common.{◌≡◌, length, sym, arith, rules}
+use Rattle.std.proofs.lemmas.List.{drop_all}
+use Rattle.packed.proofs.Words.{word_before}
+use Rattle.packed.proofs.word_bytes.words_of.Goals as goal
+
+pub returns : goal.returns
+returns c =
+    let b = c.args.bytes.now in
+    let long : length b ≡ 64 = search rules in
+    word_before b 0 _ _ c.word_at.ensures (word_before b 8 _ _ c.word_at-2.ensures (word_before b 16 _ _ c.word_at-3.ensures (word_before b 24 _ _ c.word_at-4.ensures
+    (word_before b 32 _ _ c.word_at-5.ensures (word_before b 40 _ _ c.word_at-6.ensures (word_before b 48 _ _ c.word_at-7.ensures
+    (word_before b 56 _ _ c.word_at-8.ensures (sym (drop_all 64 b (omega (arith, long)))))))))))
