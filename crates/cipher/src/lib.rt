@@ -2,4 +2,5 @@
 
 #![tactic(auto)]
 
+pub mod addition;
 pub mod engine;

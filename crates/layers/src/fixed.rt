@@ -1,8 +1,9 @@
 //! A fixed value that is added to blocks.
 
 ghost use Rattle.std.specs.Prelude.{◌≡◌, ℕ, ◌<◌, ◌≤◌, length, slice_index};
-ghost use Rattle.ublock.specs.Cipher.{xor};
 ghost use Rattle.layers.specs.Layers.{added_to_blocks};
+
+use cipher::addition::add;
 
 /// A value of 32 bytes, the first of which are added to a block by exclusive or: as many as the block has.
 #[derive(Clone, Copy)]
@@ -30,17 +31,7 @@ impl FixedValue {
     {
         // by index: of what is written through `chunks_exact_mut` a proof knows nothing
         for i in 0..run.len() / b {
-            add(&self.bytes[..b], &mut run[i * b..(i + 1) * b]);
+            add(&mut run[i * b..(i + 1) * b], &self.bytes[..b]);
         }
-    }
-}
-
-// Adds bytes to a block of as many.
-fn add(bytes: &[u8], block: &mut [u8])
-    requires { length block.old ≡ length bytes.now }
-    ensures { block.new ≡ xor block.old bytes.now }
-{
-    for (i, byte) in block.iter_mut().enumerate() {
-        *byte ^= bytes[i];
     }
 }

@@ -11,5 +11,5 @@ pub loop-i-preserved : goal.loop-i-preserved
 loop-i-preserved c =
     let b = c.args.b in
     let value = c.args.self.now.bytes in
-    each_turn b _ (λ x. xor x (take b value)) (keeps_added b value) c.loop-i.i c.args.run.now c.loop-i.run c.add.new.block
+    each_turn b _ (λ x. xor x (take b value)) (keeps_added b value) c.loop-i.i c.args.run.now c.loop-i.run c.add.new.row
     (omega arith) c.loop-i-test.true c.loop-i.invariant c.add.ensures
