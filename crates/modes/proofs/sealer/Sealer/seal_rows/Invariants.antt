@@ -1,0 +1,12 @@
+use Rattle.std.proofs.Common.{◌≡◌, ◌-◌, ◌*◌, ◌≤◌, ◌++◌, take, drop}
+use Rattle.modes.specs.Sealing.{blocks, joined, sealed, scheme_of}
+use Rattle.modes.proofs.sealer.Sealer.seal_rows.Given as goal
+
+-- the blocks so far are sealed
+abbrev pub invariant-loop-i : goal.invariant-loop-i
+invariant-loop-i g l =
+    (l.i ≤ l.n)
+    × (l.row ≡ joined (sealed (scheme_of g.E.Engine g.M.Mode l.self) l.at.index (take l.b l.at.before.bytes) (blocks l.b l.i l.readings)) ++ drop (l.i * l.b) l.initial.row)
+
+abbrev pub decreases-loop-i : goal.decreases-loop-i
+decreases-loop-i g l = l.n - l.i

@@ -1,0 +1,4 @@
+pub mod Modes
+pub mod Lawful
+pub mod Sealing
+pub mod StandardModes
