@@ -1,0 +1,3 @@
+pub mod Agreements
+pub mod Played
+pub mod Standing
