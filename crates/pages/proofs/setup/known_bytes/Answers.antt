@@ -1,0 +1,6 @@
+use Rattle.std.proofs.Common.{arith}
+use Rattle.modes.proofs.Rows.{bytes_from}
+use Rattle.pages.proofs.setup.known_bytes.Goals as goal
+
+pub returns : goal.returns
+returns c = bytes_from c.args.row.now (λ k. omega (arith, c.type_inv.row k))
