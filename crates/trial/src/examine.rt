@@ -1,8 +1,10 @@
 //! One worked example through both engines of its block length, and through layers over them.
 
 use crate::lineup::{Lineup, Tally, different, equal, repeated, through};
+use crate::logs::play_logs;
 use crate::pile::pile;
 use crate::published::Example;
+use crate::sheets::seal_sheets;
 use cipher::engine::{Engine, KeyFault};
 use engines::fill_both;
 use keyed::bundle::Bundle;
@@ -194,7 +196,9 @@ pub(crate) fn examine<H: Arrangement>(
     let of_plain = examine_engine(rt, "plain", &plain, example, &one)?;
     let of_packed = examine_engine(rt, "packed", &packed, example, &some)?;
     let through_layers = examine_piles(rt, plain, packed, example)?;
-    Ok(listed && of_plain && of_packed && through_layers)
+    let sheets = seal_sheets(rt, example)?;
+    let logs = play_logs(rt, plain, packed, example)?;
+    Ok(listed && of_plain && of_packed && through_layers && sheets && logs)
 }
 
 // The same with a pile of layers over each engine.

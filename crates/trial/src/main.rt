@@ -3,12 +3,15 @@
 
 #![tactic(auto)]
 
+mod calls;
 mod examine;
 mod lineup;
+mod logs;
 mod pile;
 #[cfg(test)]
 mod piles;
 mod published;
+mod sheets;
 
 use anyhow::anyhow;
 use examine::examine;
