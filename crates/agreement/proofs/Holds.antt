@@ -45,7 +45,7 @@ module _ (s : Scheme) (ok : Lawful s) (L : ℕ) where
   abbrev number : Account → Call → ℕ
   number a call = refusal s.size (L / s.size) (length a.readings) L call
 
-  accepted : (at : State) (a : Account) (call : Call) → Holds s L at a → OfBytes call → number a call ≡ 0 → Holds s L (left s at call) (entered a call)
+  pub accepted : (at : State) (a : Account) (call : Call) → Holds s L at a → OfBytes call → number a call ≡ 0 → Holds s L (left s at call) (entered a call)
   accepted at a (append x) h bytes e =
       let b = s.size in
       let rs = a.readings in

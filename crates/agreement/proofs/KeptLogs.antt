@@ -12,12 +12,12 @@ use Rattle.agreement.proofs.Holds.{Holds, numbered, stepped, ran, read_had}
 use Rattle.agreement.proofs.Pages.{Room, reading_of_page}
 
 -- an accepted begin
-record Started (b start page : ℕ) : Type 0 where
-  long : start ≡ b
-  whole : page % b ≡ 0
-  few : page ≤ 2048 * b
+pub record Started (b start page : ℕ) : Type 0 where
+  pub long : start ≡ b
+  pub whole : page % b ≡ 0
+  pub few : page ≤ 2048 * b
 
-started : (b start page : ℕ) → 0 ≡ begin_refusal b start page → Started b start page
+pub started : (b start page : ℕ) → 0 ≡ begin_refusal b start page → Started b start page
 started b start page e = record { long = grind (arith, nat_tests); whole = grind (arith, nat_tests); few = grind (arith, nat_tests) }
 
 -- a log that stands at the readings of these calls

@@ -1,6 +1,6 @@
 pub mod Parts
 pub mod SchemeParts
 pub mod Equations
-mod Numbers
+pub mod Numbers
 mod Calls
 mod Laws

@@ -101,8 +101,8 @@ impl<'a> Setup<'a> {
     }
 }
 
-// The block length of the variant of this number.
-fn block_len(variant: u32) -> Result<usize, KeyFault>
+/// How long a block of the variant of this number is, in bytes.
+pub fn block_len(variant: u32) -> Result<usize, KeyFault>
     ensures { key_answer result ≡ block_len_answer (numbered variant) }
 {
     Ok(Variant::try_from(variant)?.block_len())
