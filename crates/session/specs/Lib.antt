@@ -1,0 +1,4 @@
+pub mod Session
+pub mod Faults
+pub mod Logs
+pub mod Transcripts
