@@ -1,0 +1,8 @@
+use Rattle.std.proofs.Common.{◌∙◌}
+use Rattle.weddrul_c.proofs.Moves.{row_moved}
+use Rattle.weddrul_c.proofs.rows.row_with.Goals as goal
+
+pub returns-in-Ok : goal.returns-in-Ok
+returns-in-Ok g c =
+    let filled = rw c.in-Ok.is at c.requires.filled in
+    row_moved _ _ c.args.back _ _ _ filled.number filled.cipher _ _ _ (c.of_engine.ensures ∙ c.whole_row.ensures.number) c.whole_row.ensures.row
