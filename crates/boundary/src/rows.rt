@@ -6,7 +6,7 @@ ghost use Rattle.ublock.specs.Variants.{numbered};
 ghost use Rattle.cipher.specs.Engines.{each, engine_answer};
 ghost use Rattle.cipher.specs.Keys.{Filled, key_answer};
 ghost use Rattle.pages.specs.Calls.{size};
-ghost use Rattle.weddrul_c.specs.Calls.{Moved, row_refusal, way};
+ghost use Rattle.boundary.specs.Calls.{Moved, row_refusal, way};
 
 use crate::numbers;
 use crate::runs::there_or_back;

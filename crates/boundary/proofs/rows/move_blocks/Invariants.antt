@@ -1,7 +1,7 @@
 use Rattle.std.proofs.Common.{◌≡◌, ◌-◌, ◌*◌, ◌≤◌, ◌++◌, drop}
 use Rattle.cipher.specs.Engines.{each}
-use Rattle.weddrul_c.specs.Calls.{way}
-use Rattle.weddrul_c.proofs.rows.move_blocks.Given as goal
+use Rattle.boundary.specs.Calls.{way}
+use Rattle.boundary.proofs.rows.move_blocks.Given as goal
 
 -- the blocks so far are replaced
 abbrev pub invariant-loop-i : goal.invariant-loop-i

@@ -15,7 +15,7 @@ use Rattle.cipher.specs.Engines.{Answer, Shape, Ran, each, refused}
 use Rattle.cipher.specs.Keys.{fill_number, fill_number_of, MeansCipher}
 use Rattle.pages.specs.Calls.{size}
 use Rattle.pages.proofs.Numbers.{filled_number, filled_size}
-use Rattle.weddrul_c.specs.Calls.{Moved, cipher, lanes, run_refusal, row_refusal, way}
+use Rattle.boundary.specs.Calls.{Moved, cipher, lanes, run_refusal, row_refusal, way}
 
 each_alike : (b : ℕ) (f g : List ℕ → List ℕ) → ((x : List ℕ) → f x ≡ g x) → (n : ℕ) (xs : List ℕ) → each b f n xs ≡ each b g n xs
 unfolding each

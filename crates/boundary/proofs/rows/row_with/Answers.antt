@@ -1,6 +1,6 @@
 use Rattle.std.proofs.Common.{◌∙◌}
-use Rattle.weddrul_c.proofs.Moves.{row_moved}
-use Rattle.weddrul_c.proofs.rows.row_with.Goals as goal
+use Rattle.boundary.proofs.Moves.{row_moved}
+use Rattle.boundary.proofs.rows.row_with.Goals as goal
 
 pub returns-in-Ok : goal.returns-in-Ok
 returns-in-Ok g c =

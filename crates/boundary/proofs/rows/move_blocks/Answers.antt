@@ -1,6 +1,6 @@
 use Rattle.std.proofs.Common.{◌≤◌, arith}
-use Rattle.weddrul_c.proofs.Moves.{begun, run_turn}
-use Rattle.weddrul_c.proofs.rows.move_blocks.Goals as goal
+use Rattle.boundary.proofs.Moves.{begun, run_turn}
+use Rattle.boundary.proofs.rows.move_blocks.Goals as goal
 
 pub loop-i-init : goal.loop-i-init
 loop-i-init g c = (omega arith, begun _ _ _)

@@ -1,5 +1,5 @@
-use Rattle.weddrul_c.proofs.Moves.{run_moved}
-use Rattle.weddrul_c.proofs.runs.run_with.Goals as goal
+use Rattle.boundary.proofs.Moves.{run_moved}
+use Rattle.boundary.proofs.runs.run_with.Goals as goal
 
 pub returns-in-Ok : goal.returns-in-Ok
 returns-in-Ok g c =
