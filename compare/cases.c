@@ -46,8 +46,9 @@ static void write_run(const struct run_case *c)
 
 static void write_setup(const char *call, const struct page_case *c)
 {
-    fprintf(inputs, "%s %u %s", call, c->variant, c->cbc ? "cbc" : "ecb");
+    fprintf(inputs, "%s %u", call, c->variant);
     write_bytes(inputs, c->key, c->key_len);
+    fputs(c->cbc ? " cbc" : " ecb", inputs);
     write_bytes(inputs, c->start, c->start_len);
 }
 
