@@ -3,10 +3,11 @@
 #![tactic(auto)]
 
 ghost use Rattle.std.specs.Prelude.{◌≡◌, ◌*◌, length};
-ghost use Rattle.ublock.specs.Cipher.{Layout, block_length, layout128, layout256, permute};
+ghost use Rattle.ublock.specs.Cipher.{Layout, block_length, layout128, layout256, permute, substitute};
 ghost use Rattle.halves.specs.Halves.{Published, HasPermutations};
 ghost use Rattle.std.proofs.Common.{refl, inl, inr};
 
+use ublock::tables::Substitution;
 use words::pair::Pair;
 use words::pieces::Pieces;
 use words::word::Word;
@@ -114,7 +115,36 @@ pub fn unpermute_right<H: Half>(half: H) -> H
     permuted(half, H::permutations().inverse_right)
 }
 
-// The half whose bytes are those of `half` at the given places.
+/// A left half through PL, each byte substituted.
+pub fn look_up_left<H: Half, T: Substitution>(half: H) -> H
+    ensures { H.bytes result ≡ substitute T.nibbles (permute H.layout.PL (H.bytes half)) }
+{
+    looked_up::<H, T>(half, H::permutations().left)
+}
+
+/// A right half through PR, each byte substituted.
+pub fn look_up_right<H: Half, T: Substitution>(half: H) -> H
+    ensures { H.bytes result ≡ substitute T.nibbles (permute H.layout.PR (H.bytes half)) }
+{
+    looked_up::<H, T>(half, H::permutations().right)
+}
+
+/// A left half through the inverse of PL, each byte substituted.
+pub fn look_up_left_back<H: Half, T: Substitution>(half: H) -> H
+    ensures { H.bytes result ≡ substitute T.nibbles (permute H.layout.PL_inverse (H.bytes half)) }
+{
+    looked_up::<H, T>(half, H::permutations().inverse_left)
+}
+
+/// A right half through the inverse of PR, each byte substituted.
+pub fn look_up_right_back<H: Half, T: Substitution>(half: H) -> H
+    ensures { H.bytes result ≡ substitute T.nibbles (permute H.layout.PR_inverse (H.bytes half)) }
+{
+    looked_up::<H, T>(half, H::permutations().inverse_right)
+}
+
+// The half whose bytes are those of `half` at the given places. Inlined, since the places are then known and cost nothing.
+#[inline(always)]
 fn permuted<H: Half>(half: H, places: &[u8]) -> H
     requires { length places.now ≡ H.count * 4 }
     ensures { H.bytes result ≡ permute places.now (H.bytes half) }
@@ -124,4 +154,16 @@ fn permuted<H: Half>(half: H, places: &[u8]) -> H
     let row = &mut row[..places.len()];
     half.write(row);
     H::gather(row, places).unwrap()
+}
+
+// The same, each byte substituted.
+#[inline(always)]
+fn looked_up<H: Half, T: Substitution>(half: H, places: &[u8]) -> H
+    requires { length places.now ≡ H.count * 4 }
+    ensures { H.bytes result ≡ substitute T.nibbles (permute places.now (H.bytes half)) }
+{
+    let mut row = [0; 16];
+    let row = &mut row[..places.len()];
+    half.write(row);
+    H::look_up::<T>(row, places).unwrap()
 }

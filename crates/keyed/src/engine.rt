@@ -56,7 +56,8 @@ impl<R: KeyRow, B: Bundle<R>> Keyed<B, R> {
         Ok(())
     }
 
-    // Blocks after the first n rounds.
+    // Blocks after the first n rounds. Not inlined, so that what is compiled for the loop does not hang on the caller.
+    #[inline(never)]
     fn rounds(&self, n: usize, bundle: B) -> B
         requires { n ≤ 24 }
         ensures { EachLane B.lane_count (λ i. B.lane result i ≡ rounds B.layout (row_key R.key_bytes B.layout self.now.rows) n (B.lane bundle i)) }
@@ -69,6 +70,7 @@ impl<R: KeyRow, B: Bundle<R>> Keyed<B, R> {
     }
 
     // Blocks before their first n rounds.
+    #[inline(never)]
     fn unrounds(&self, n: usize, bundle: B) -> B
         requires { n ≤ 24 }
         ensures { EachLane B.lane_count (λ i. B.lane result i ≡ inverse_rounds B.layout (row_key R.key_bytes B.layout self.now.rows) n (B.lane bundle i)) }

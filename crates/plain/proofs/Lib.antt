@@ -1,2 +1,3 @@
-pub mod RoundFacts
-pub mod Layouts
+mod RoundFacts
+mod Layouts
+mod Permuted

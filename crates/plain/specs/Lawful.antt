@@ -2,6 +2,11 @@
 -- crate but those of specs/.
 use Rattle.std.proofs.Common.{ap, inl, inr, ⊎_elim, arith}
 use Rattle.ublock.specs.Cipher.{Layout, block_length}
+use Rattle.ublock.specs.Laws.{Bytes}
+use Rattle.ublock.proofs.Bytes.{bounded-permute, bytes-append, bytes-take, bytes-drop}
+use Rattle.schedule.specs.declared.row.Row.{Row}
+use Rattle.schedule.proofs.KeyRows.{bytes_from}
+use Rattle.plain.specs.Unpermuted.{row_of}
 use Rattle.cipher.specs.Engines.{Shape}
 use Rattle.halves.specs.Halves.{Published}
 
@@ -12,3 +17,11 @@ one_lane_shape l p = record {
   one_lane = omega arith;
   eight_lanes = omega arith;
 }
+
+-- a row of bytes
+pub row_of_bytes : (l : Layout) (key row : Row) → Bytes (row_of l key.bytes row.bytes)
+row_of_bytes l key row =
+    let bytes = bytes_from key.bytes key.of_bytes in
+    bytes-append _ _
+    (bytes-append _ _ (bounded-permute 256 (omega arith) l.PL _ (bytes-take l.half _ bytes)) (bounded-permute 256 (omega arith) l.PR _ (bytes-take l.half _ (bytes-drop l.half _ bytes))))
+    (bytes-drop (block_length l) row.bytes (bytes_from row.bytes row.of_bytes))

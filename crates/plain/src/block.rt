@@ -2,28 +2,28 @@
 
 ghost use Rattle.std.specs.Prelude.{ℕ};
 ghost use Rattle.ublock.specs.Cipher.{block_length};
-ghost use Rattle.words.specs.Pairs.{pair_bytes};
+ghost use Rattle.plain.specs.Unpermuted.{block_of};
 ghost use Rattle.plain.specs.Lawful.{one_lane_shape};
 
-use crate::rounds::{round, round_key, unround};
+use crate::key_halves::KeyHalves;
+use crate::rounds::{permuted, round, unpermuted, unround, xor};
 use halves::Half;
 use keyed::bundle::Bundle;
-use schedule::row::Row;
 use words::pair::Pair;
 use words::pieces::Pieces;
 
-/// One block, in its two halves.
+/// One block, in halves that are still to go through the byte permutations.
 #[derive(Clone, Copy)]
 pub struct Block<H> {
     pub halves: Pair<H>,
 }
 
-impl<H: Half> Bundle<Row> for Block<H> {
+impl<H: Half> Bundle<KeyHalves<H>> for Block<H> {
     ghost layout = { H.layout };
 
     ghost lane_count = { 1 };
 
-    ghost lane = { λ x i. pair_bytes H.bytes x.halves };
+    ghost lane = { λ x i. block_of H.layout H.bytes x.halves };
 
     ghost published = { H.published };
 
@@ -37,15 +37,15 @@ impl<H: Half> Bundle<Row> for Block<H> {
         1
     }
 
-    fn key(row: &Row) -> Block<H> {
+    fn key(row: &KeyHalves<H>) -> Block<H> {
         Block {
-            halves: round_key(row),
+            halves: row.halves(),
         }
     }
 
     fn xor(self, other: Block<H>) -> Block<H> {
         Block {
-            halves: self.halves.xor(other.halves),
+            halves: xor(self.halves, other.halves),
         }
     }
 
@@ -70,11 +70,11 @@ impl<H: Half> Bundle<Row> for Block<H> {
             run
         };
         Some(Block {
-            halves: Pair::read(block)?,
+            halves: unpermuted(Pair::read(block)?),
         })
     }
 
     fn store(self, run: &mut [u8]) {
-        self.halves.write(run);
+        permuted(self.halves).write(run);
     }
 }

@@ -3,11 +3,12 @@
 #![tactic(auto)]
 
 pub mod block;
+pub mod key_halves;
 mod rounds;
 
 use block::Block;
+use key_halves::KeyHalves;
 use keyed::engine::Keyed;
-use schedule::row::Row;
 
 /// The plain engine, for blocks of two such halves.
-pub type Plain<H> = Keyed<Block<H>, Row>;
+pub type Plain<H> = Keyed<Block<H>, KeyHalves<H>>;

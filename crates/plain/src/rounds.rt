@@ -1,39 +1,66 @@
-//! A round of a block in two halves, and its inverse.
+//! Rounds of a block in halves that are still to go through the byte permutations. So a round permutes the bytes and looks them
+//! up in one, and the inverse round need not undo the permutations first.
 
-ghost use Rattle.std.specs.Prelude.{◌≡◌, take};
-ghost use Rattle.ublock.specs.Cipher.{round, inverse_round, block_length};
+ghost use Rattle.std.specs.Prelude.{◌≡◌};
+ghost use Rattle.ublock.specs.Cipher.{round, inverse_round, xor};
 ghost use Rattle.words.specs.Pairs.{pair_bytes};
+ghost use Rattle.plain.specs.Unpermuted.{block_of};
 
-use halves::{Half, permute_left, permute_right, unpermute_left, unpermute_right};
-use schedule::row::Row;
+use halves::{
+    Half, look_up_left, look_up_left_back, look_up_right, look_up_right_back, permute_left,
+    permute_right, unpermute_left, unpermute_right,
+};
 use ublock::tables::{InverseSbox, Sbox};
 use words::pair::Pair;
 use words::pieces::Pieces;
 
-/// The round key at the front of a row.
-pub(crate) fn round_key<H: Half>(row: &Row) -> Pair<H>
-    ensures { pair_bytes H.bytes result ≡ take (block_length H.layout) row.now.bytes }
+/// The halves of a block, through the byte permutations.
+pub(crate) fn permuted<H: Half>(halves: Pair<H>) -> Pair<H>
+    ensures { pair_bytes H.bytes result ≡ block_of H.layout H.bytes halves }
 {
-    Pair::read(&row.bytes[..H::block_len()]).unwrap()
+    Pair {
+        first: permute_left(halves.first),
+        second: permute_right(halves.second),
+    }
+}
+
+/// The halves of which a block is made by the byte permutations.
+pub(crate) fn unpermuted<H: Half>(block: Pair<H>) -> Pair<H>
+    ensures { block_of H.layout H.bytes result ≡ pair_bytes H.bytes block }
+{
+    Pair {
+        first: unpermute_left(block.first),
+        second: unpermute_right(block.second),
+    }
+}
+
+/// The exclusive or of both blocks.
+pub(crate) fn xor<H: Half>(x: Pair<H>, y: Pair<H>) -> Pair<H>
+    ensures { block_of H.layout H.bytes result ≡ xor (block_of H.layout H.bytes x) (block_of H.layout H.bytes y) }
+{
+    Pair {
+        first: x.first.xor(y.first),
+        second: x.second.xor(y.second),
+    }
 }
 
 /// A round of a block under a round key.
 pub(crate) fn round<H: Half>(block: Pair<H>, key: Pair<H>) -> Pair<H>
-    ensures { pair_bytes H.bytes result ≡ round H.layout (pair_bytes H.bytes key) (pair_bytes H.bytes block) }
+    ensures { block_of H.layout H.bytes result ≡ round H.layout (block_of H.layout H.bytes key) (block_of H.layout H.bytes block) }
 {
-    let block = block.xor(key).substitute::<Sbox>();
-    let mixed = block.first.mix(block.second);
-    Pair {
-        first: permute_left(mixed.first),
-        second: permute_right(mixed.second),
-    }
+    let left = look_up_left::<H, Sbox>(block.first.xor(key.first));
+    let right = look_up_right::<H, Sbox>(block.second.xor(key.second));
+    left.mix(right)
 }
 
 /// The block before a round under a round key.
 pub(crate) fn unround<H: Half>(block: Pair<H>, key: Pair<H>) -> Pair<H>
-    ensures { pair_bytes H.bytes result ≡ inverse_round H.layout (pair_bytes H.bytes key) (pair_bytes H.bytes block) }
+    ensures { block_of H.layout H.bytes result ≡ inverse_round H.layout (block_of H.layout H.bytes key) (block_of H.layout H.bytes block) }
 {
-    let left = unpermute_left(block.first);
-    let right = unpermute_right(block.second);
-    left.unmix(right).substitute::<InverseSbox>().xor(key)
+    let before = block.first.unmix(block.second);
+    let looked_up = Pair {
+        first: look_up_left_back::<H, InverseSbox>(before.first),
+        second: look_up_right_back::<H, InverseSbox>(before.second),
+    };
+    xor(looked_up, key)
 }

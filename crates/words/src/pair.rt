@@ -21,11 +21,21 @@ impl<P: Pieces> Pieces for Pair<P> {
 
     ghost whole = { λ x. block_beside P.count (P.bytes x.first) (P.bytes x.second) (P.whole x.first) (P.whole x.second) };
 
+    #[inline(always)]
     fn gather(row: &[u8], places: &[u8]) -> Option<Pair<P>> {
         let (front, back) = places.split_at(places.len() / 2);
         Some(Pair {
             first: P::gather(row, front)?,
             second: P::gather(row, back)?,
+        })
+    }
+
+    #[inline(always)]
+    fn look_up<T: Substitution>(row: &[u8], places: &[u8]) -> Option<Pair<P>> {
+        let (front, back) = places.split_at(places.len() / 2);
+        Some(Pair {
+            first: P::look_up::<T>(row, front)?,
+            second: P::look_up::<T>(row, back)?,
         })
     }
 

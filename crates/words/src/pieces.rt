@@ -21,6 +21,11 @@ pub trait Pieces: Copy {
         ensures fits { IsSome result ↔ (length places.now ≡ count * 4) }
         ensures value { IfSome result (λ x. bytes x ≡ permute places.now row.now) };
 
+    /// The same, each byte through the substitution.
+    fn look_up<T: Substitution>(row: &[u8], places: &[u8]) -> Option<Self>
+        ensures fits { IsSome result ↔ (length places.now ≡ count * 4) }
+        ensures value { IfSome result (λ x. bytes x ≡ substitute T.nibbles (permute places.now row.now)) };
+
     /// The pieces of these bytes, where there are as many as they hold.
     fn read(row: &[u8]) -> Option<Self>
         ensures fits { IsSome result ↔ (length row.now ≡ count * 4) }

@@ -1,44 +1,34 @@
 //! Four bytes, as one piece.
 
-ghost use Rattle.std.specs.Prelude.{◌≡◌, ◌<◌, slice_index};
-ghost use Rattle.ublock.specs.Cipher.{xor, rotate};
+ghost use Rattle.std.specs.Prelude.{◌≡◌, ◌<◌, ◌∷◌, [], slice_index};
+ghost use Rattle.ublock.specs.Cipher.{on_nibbles, xor, rotate};
 ghost use Rattle.words.specs.Words.{word};
 
 use crate::pair::Pair;
 use crate::pieces::Pieces;
 use ublock::tables::Substitution;
 
-/// Four bytes: the 32-bit piece that the round rotates.
+/// Four bytes as a number, the highest byte first: the 32-bit piece that the round rotates.
 #[derive(Clone, Copy, Debug, PartialEq, Eq, Hash)]
 pub struct Word {
-    pub a: u8,
-    pub b: u8,
-    pub c: u8,
-    pub d: u8,
-
-    // the range of a u8, which a law over all words could not tell from the type alone
-    pub ghost of_bytes: { (a < 256) × ((b < 256) × ((c < 256) × (d < 256))) },
+    pub number: u32,
 }
 
-/// The highest byte first.
-impl From<u32> for Word {
-    ghost use Rattle.words.specs.Word.{word_bytes};
-
-    ghost from_gives = { λ n w. word_bytes w ≡ word n };
-
-    fn from(n: u32) -> Word {
-        let [a, b, c, d] = n.to_be_bytes();
-        Word { a, b, c, d }
+impl Word {
+    /// The word of these bytes.
+    pub fn of(a: u8, b: u8, c: u8, d: u8) -> Word
+        ensures { word result.number ≡ a ∷ b ∷ c ∷ d ∷ [] }
+    {
+        Word {
+            number: u32::from_be_bytes([a, b, c, d]),
+        }
     }
-}
 
-impl From<Word> for u32 {
-    ghost use Rattle.words.specs.Word.{word_bytes};
-
-    ghost from_gives = { λ w n. word n ≡ word_bytes w };
-
-    fn from(w: Word) -> u32 {
-        u32::from_be_bytes([w.a, w.b, w.c, w.d])
+    /// The four bytes.
+    pub fn bytes(self) -> [u8; 4]
+        ensures { result ≡ word self.number }
+    {
+        self.number.to_be_bytes()
     }
 }
 
@@ -51,96 +41,109 @@ impl Pieces for Word {
 
     ghost whole = { word_block };
 
+    #[inline(always)]
     fn gather(row: &[u8], places: &[u8]) -> Option<Word> {
         let [a, b, c, d] = places else {
             return None;
         };
-        Some(Word {
-            a: byte_at(row, *a),
-            b: byte_at(row, *b),
-            c: byte_at(row, *c),
-            d: byte_at(row, *d),
-        })
+        Some(Word::of(
+            byte_at(row, *a),
+            byte_at(row, *b),
+            byte_at(row, *c),
+            byte_at(row, *d),
+        ))
+    }
+
+    #[inline(always)]
+    fn look_up<T: Substitution>(row: &[u8], places: &[u8]) -> Option<Word> {
+        let [a, b, c, d] = places else {
+            return None;
+        };
+        Some(Word::of(
+            looked_up::<T>(row, *a),
+            looked_up::<T>(row, *b),
+            looked_up::<T>(row, *c),
+            looked_up::<T>(row, *d),
+        ))
     }
 
     fn read(row: &[u8]) -> Option<Word> {
         let [a, b, c, d] = row else {
             return None;
         };
-        Some(Word {
-            a: *a,
-            b: *b,
-            c: *c,
-            d: *d,
-        })
+        Some(Word::of(*a, *b, *c, *d))
     }
 
     fn write(self, row: &mut [u8]) {
         if row.len() == 4 {
-            row.copy_from_slice(&[self.a, self.b, self.c, self.d]);
+            row.copy_from_slice(&self.bytes());
         }
     }
 
     fn xor(self, other: Word) -> Word {
         Word {
-            a: self.a ^ other.a,
-            b: self.b ^ other.b,
-            c: self.c ^ other.c,
-            d: self.d ^ other.d,
+            number: self.number ^ other.number,
         }
     }
 
     fn substitute<T: Substitution>(self) -> Word {
-        Word {
-            a: T::substitute(self.a),
-            b: T::substitute(self.b),
-            c: T::substitute(self.c),
-            d: T::substitute(self.d),
-        }
+        let [a, b, c, d] = self.bytes();
+        Word::of(
+            T::substitute(a),
+            T::substitute(b),
+            T::substitute(c),
+            T::substitute(d),
+        )
     }
 
     fn mix(self, right: Word) -> Pair<Word> {
-        let x0 = u32::from(self);
-        let x1 = u32::from(right);
-        let x1 = add_rotated(x1, x0, 0);
-        let x0 = add_rotated(x0, x1, 4);
+        let x1 = add_rotated(right, self, 0);
+        let x0 = add_rotated(self, x1, 4);
         let x1 = add_rotated(x1, x0, 8);
         let x0 = add_rotated(x0, x1, 8);
         let x1 = add_rotated(x1, x0, 20);
         let x0 = add_rotated(x0, x1, 0);
         Pair {
-            first: Word::from(x0),
-            second: Word::from(x1),
+            first: x0,
+            second: x1,
         }
     }
 
     // The steps of the mixing in reverse: each undoes itself.
     fn unmix(self, right: Word) -> Pair<Word> {
-        let y0 = u32::from(self);
-        let y1 = u32::from(right);
-        let y0 = add_rotated(y0, y1, 0);
-        let y1 = add_rotated(y1, y0, 20);
+        let y0 = add_rotated(self, right, 0);
+        let y1 = add_rotated(right, y0, 20);
         let y0 = add_rotated(y0, y1, 8);
         let y1 = add_rotated(y1, y0, 8);
         let y0 = add_rotated(y0, y1, 4);
         let y1 = add_rotated(y1, y0, 0);
         Pair {
-            first: Word::from(y0),
-            second: Word::from(y1),
+            first: y0,
+            second: y1,
         }
     }
 }
 
+#[inline(always)]
 fn byte_at(row: &[u8], place: u8) -> u8
     ensures { result ≡ slice_index row.now place }
 {
     row.get(place as usize).copied().unwrap_or(0)
 }
 
-// One step of the mixing.
-fn add_rotated(piece: u32, other: u32, by: u32) -> u32
-    requires { by < 32 }
-    ensures { word result ≡ xor (word piece) (rotate by (word other)) }
+#[inline(always)]
+fn looked_up<T: Substitution>(row: &[u8], place: u8) -> u8
+    ensures { result ≡ on_nibbles T.nibbles (slice_index row.now place) }
 {
-    piece ^ other.rotate_left(by)
+    T::substitute(byte_at(row, place))
+}
+
+// One step of the mixing.
+fn add_rotated(piece: Word, other: Word, by: u32) -> Word
+    requires { by < 32 }
+    ensures { word result.number ≡ xor (word piece.number) (rotate by (word other.number)) }
+{
+    Word {
+        number: piece.number ^ other.number.rotate_left(by),
+    }
 }

@@ -6,5 +6,5 @@ use Rattle.words.proofs.word.add_rotated.Goals as goal
 
 pub returns : goal.returns
 returns c =
-    word-xor c.args.piece c.rotate_left.result
-    ∙ ap (xor (word c.args.piece)) (word_rotated c.args.by c.args.other c.rotate_left.result (omega arith) (omega arith) c.rotate_left.ensures)
+    word-xor c.args.piece.number c.rotate_left.result
+    ∙ ap (xor (word c.args.piece.number)) (word_rotated c.args.by c.args.other.number c.rotate_left.result (omega arith) (omega arith) c.rotate_left.ensures)

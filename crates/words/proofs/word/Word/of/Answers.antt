@@ -1,6 +1,6 @@
 use Rattle.std.proofs.Common.{arith}
 use Rattle.words.proofs.WordFacts.{word_of_bytes}
-use Rattle.words.proofs.word.U32FromWord.from.Goals as goal
+use Rattle.words.proofs.word.Word.of.Goals as goal
 
 pub returns : goal.returns
 returns c = word_of_bytes _ _ _ _ _ (omega arith) (omega arith) (omega arith) (omega arith) c.from_be_bytes.ensures
