@@ -1,11 +1,13 @@
 -- The plain engine keeps the laws of an engine. These lemmas stand here since a law that an impl proves may cite no file of its
 -- crate but those of specs/.
-use Rattle.std.proofs.Common.{ap, inl, inr, ⊎_elim, arith}
+use Rattle.std.proofs.Common.{ℕ, List, ap, inl, inr, ⊎_elim, arith}
 use Rattle.ublock.specs.Cipher.{Layout, block_length}
 use Rattle.ublock.specs.Laws.{Bytes}
 use Rattle.ublock.proofs.Bytes.{bounded-permute, bytes-append, bytes-take, bytes-drop}
 use Rattle.schedule.specs.declared.row.Row.{Row}
 use Rattle.schedule.proofs.KeyRows.{bytes_from}
+use Rattle.words.specs.Words.{words}
+use Rattle.words.proofs.Numbers.{words_bytes}
 use Rattle.plain.specs.Unpermuted.{row_of}
 use Rattle.cipher.specs.Engines.{Shape}
 use Rattle.halves.specs.Halves.{Published}
@@ -19,9 +21,9 @@ one_lane_shape l p = record {
 }
 
 -- a row of bytes
-pub row_of_bytes : (l : Layout) (key row : Row) → Bytes (row_of l key.bytes row.bytes)
-row_of_bytes l key row =
-    let bytes = bytes_from key.bytes key.of_bytes in
+pub row_of_bytes : (l : Layout) (numbers : List ℕ) (row : Row) → Bytes (row_of l (words numbers) row.bytes)
+row_of_bytes l numbers row =
+    let bytes = words_bytes numbers in
     bytes-append _ _
     (bytes-append _ _ (bounded-permute 256 (omega arith) l.PL _ (bytes-take l.half _ bytes)) (bounded-permute 256 (omega arith) l.PR _ (bytes-take l.half _ (bytes-drop l.half _ bytes))))
     (bytes-drop (block_length l) row.bytes (bytes_from row.bytes row.of_bytes))

@@ -1,8 +1,9 @@
 //! A row of round keys, as the plain engine keeps it.
 
-ghost use Rattle.std.specs.Prelude.{◌≡◌, take, length, replicate, drop, ◌++◌};
+ghost use Rattle.std.specs.Prelude.{◌≡◌, ◌/◌, take};
 ghost use Rattle.ublock.specs.Cipher.{block_length};
 ghost use Rattle.words.specs.Pairs.{pair_bytes};
+ghost use Rattle.words.specs.Words.{words};
 ghost use Rattle.plain.specs.Unpermuted.{block_of, row_of};
 ghost use Rattle.plain.specs.Lawful.{row_of_bytes};
 
@@ -14,22 +15,22 @@ use std::marker::PhantomData;
 use words::pair::Pair;
 use words::pieces::Pieces;
 
-/// A row that a round key is the front of, and the key's halves as they are before the byte permutations.
+/// A row that a round key is the front of, and the key's halves as numbers, as they are before the byte permutations.
 #[derive(Clone, Copy)]
 pub struct KeyHalves<H> {
-    halves: Row,
+    numbers: [u32; 8],
     row: Row,
     half: PhantomData<H>,
 }
 
 impl<H: Half> KeyRow for KeyHalves<H> {
-    ghost key_bytes = { λ key. row_of H.layout key.halves.bytes key.row.bytes };
+    ghost key_bytes = { λ key. row_of H.layout (words key.numbers) key.row.bytes };
 
-    ghost of_bytes = { λ key. row_of_bytes H.layout key.halves key.row };
+    ghost of_bytes = { λ key. row_of_bytes H.layout key.numbers key.row };
 
     fn of(row: &Row) -> KeyHalves<H> {
         KeyHalves {
-            halves: written(unpermuted(front::<H>(row))),
+            numbers: numbers_of(unpermuted(front::<H>(row))),
             row: *row,
             half: PhantomData,
         }
@@ -39,9 +40,9 @@ impl<H: Half> KeyRow for KeyHalves<H> {
 impl<H: Half> KeyHalves<H> {
     /// The key's halves, before the byte permutations.
     pub(crate) fn halves(&self) -> Pair<H>
-        ensures { block_of H.layout H.bytes result ≡ take (block_length H.layout) (row_of H.layout self.now.halves.bytes self.now.row.bytes) }
+        ensures { block_of H.layout H.bytes result ≡ take (block_length H.layout) (row_of H.layout (words self.now.numbers) self.now.row.bytes) }
     {
-        front(&self.halves)
+        first(&self.numbers)
     }
 }
 
@@ -52,11 +53,18 @@ fn front<H: Half>(row: &Row) -> Pair<H>
     Pair::read(&row.bytes[..H::block_len()]).unwrap()
 }
 
-// A row with these halves at its front.
-fn written<H: Half>(halves: Pair<H>) -> Row
-    ensures { take (block_length H.layout) result.bytes ≡ pair_bytes H.bytes halves }
+// The halves that the first numbers are.
+fn first<H: Half>(numbers: &[u32; 8]) -> Pair<H>
+    ensures { pair_bytes H.bytes result ≡ take (block_length H.layout) (words numbers.now) }
 {
-    let mut bytes = [0; 32];
-    halves.write(&mut bytes[..H::block_len()]);
-    Row { bytes }
+    Pair::from_numbers(&numbers[..H::block_len() / 4]).unwrap()
+}
+
+// Numbers of which the first are these halves.
+fn numbers_of<H: Half>(halves: Pair<H>) -> [u32; 8]
+    ensures { take (block_length H.layout) (words result) ≡ pair_bytes H.bytes halves }
+{
+    let mut numbers = [0; 8];
+    halves.write_numbers(&mut numbers[..H::block_len() / 4]);
+    numbers
 }

@@ -1,1 +1,2 @@
 pub mod WordFacts
+pub mod Numbers

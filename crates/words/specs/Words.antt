@@ -1,5 +1,5 @@
 -- Bytes in pieces of four.
-use Rattle.std.specs.Prelude.{◌≡◌, ℕ, ◌+◌, ◌*◌, List, ◌++◌}
+use Rattle.std.specs.Prelude.{◌≡◌, ℕ, ◌+◌, ◌*◌, List, [], ◌∷◌, ◌++◌}
 use Rattle.std.proofs.Common.{subst, arith}
 use Rattle.ublock.specs.Cipher.{be4, Halves}
 use Rattle.ublock.specs.Laws.{Block}
@@ -8,6 +8,11 @@ use Rattle.ublock.proofs.Bytes.{block-append}
 -- the four bytes of a 32-bit number, the highest first
 unfoldable pub word : ℕ → List ℕ
 word n = be4 n
+
+-- the bytes of 32-bit numbers
+abbrev pub words : List ℕ → List ℕ
+words [] = []
+words (n ∷ ns) = word n ++ words ns
 
 abbrev pub halves : List ℕ → List ℕ → Halves
 halves l r = record { left = l; right = r }

@@ -55,6 +55,24 @@ impl<P: Pieces> Pieces for Pair<P> {
         }
     }
 
+    #[tactic(auto, using(crate::proofs::Numbers::words_parts))]
+    fn from_numbers(numbers: &[u32]) -> Option<Pair<P>> {
+        let (front, back) = numbers.split_at(numbers.len() / 2);
+        Some(Pair {
+            first: P::from_numbers(front)?,
+            second: P::from_numbers(back)?,
+        })
+    }
+
+    #[tactic(auto, using(crate::proofs::Numbers::words_append))]
+    fn write_numbers(self, row: &mut [u32]) {
+        if row.len() % 2 == 0 {
+            let (front, back) = row.split_at_mut(row.len() / 2);
+            self.first.write_numbers(front);
+            self.second.write_numbers(back);
+        }
+    }
+
     fn xor(self, other: Pair<P>) -> Pair<P> {
         Pair {
             first: self.first.xor(other.first),

@@ -3,7 +3,7 @@
 ghost use Rattle.std.specs.Prelude.{◌≡◌, ◌≢◌, ◌↔◌, ℕ, ◌*◌, List, length, IsSome, IfSome};
 ghost use Rattle.ublock.specs.Cipher.{substitute, xor, permute, mixing, mixed, unmixed};
 ghost use Rattle.ublock.specs.Laws.{Block};
-ghost use Rattle.words.specs.Words.{halves};
+ghost use Rattle.words.specs.Words.{halves, words};
 
 use crate::pair::Pair;
 use ublock::tables::Substitution;
@@ -35,6 +35,16 @@ pub trait Pieces: Copy {
     fn write(self, row: &mut [u8])
         ensures written { length row.old ≡ count * 4 → row.new ≡ bytes self }
         ensures left_alone { length row.old ≢ count * 4 → row.new ≡ row.old };
+
+    /// The pieces that are these numbers, where there are as many.
+    fn from_numbers(numbers: &[u32]) -> Option<Self>
+        ensures fits { IsSome result ↔ (length numbers.now ≡ count) }
+        ensures value { IfSome result (λ x. bytes x ≡ words numbers.now) };
+
+    /// Writes the pieces as numbers over a row of as many; any other row stays.
+    fn write_numbers(self, row: &mut [u32])
+        ensures written { length row.old ≡ count → words row.new ≡ bytes self }
+        ensures left_alone { length row.old ≢ count → row.new ≡ row.old };
 
     /// The exclusive or of both.
     fn xor(self, other: Self) -> Self

@@ -80,6 +80,19 @@ impl Pieces for Word {
         }
     }
 
+    fn from_numbers(numbers: &[u32]) -> Option<Word> {
+        let [number] = numbers else {
+            return None;
+        };
+        Some(Word { number: *number })
+    }
+
+    fn write_numbers(self, row: &mut [u32]) {
+        if row.len() == 1 {
+            row.copy_from_slice(&[self.number]);
+        }
+    }
+
     fn xor(self, other: Word) -> Word {
         Word {
             number: self.number ^ other.number,
