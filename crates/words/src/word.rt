@@ -1,6 +1,6 @@
 //! Four bytes, as one piece.
 
-ghost use Rattle.std.specs.Prelude.{◌≡◌, ◌<◌, ◌∷◌, [], slice_index};
+ghost use Rattle.std.specs.Prelude.{◌≡◌, ◌%◌, ◌<◌, ◌∷◌, [], slice_index};
 ghost use Rattle.ublock.specs.Cipher.{on_nibbles, xor, rotate};
 ghost use Rattle.words.specs.Words.{word};
 
@@ -19,16 +19,19 @@ impl Word {
     pub fn of(a: u8, b: u8, c: u8, d: u8) -> Word
         ensures { word result.number ≡ a ∷ b ∷ c ∷ d ∷ [] }
     {
+        let [a, b, c, d] = [u32::from(a), u32::from(b), u32::from(c), u32::from(d)];
         Word {
-            number: u32::from_be_bytes([a, b, c, d]),
+            number: a * 0x100_0000 + b * 0x1_0000 + c * 0x100 + d,
         }
     }
 
     /// The four bytes.
+    #[tactic(auto, unfolding(crate::specs::Words::word))]
     pub fn bytes(self) -> [u8; 4]
         ensures { result ≡ word self.number }
     {
-        self.number.to_be_bytes()
+        let n = self.number;
+        [byte(n >> 24), byte(n >> 16), byte(n >> 8), byte(n)]
     }
 }
 
@@ -135,6 +138,13 @@ impl Pieces for Word {
             second: y1,
         }
     }
+}
+
+// The lowest byte.
+fn byte(n: u32) -> u8
+    ensures { result ≡ n % 256 }
+{
+    (n % 256) as u8
 }
 
 #[inline(always)]
