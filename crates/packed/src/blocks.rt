@@ -5,7 +5,7 @@ ghost use Rattle.vectors.specs.Vectors.{block_at};
 ghost use Rattle.packed.specs.Lawful.{lanes_shape};
 
 use crate::arrangement::Arrangement;
-use crate::word_bytes::{bytes_of, padded, words_of};
+use crate::word_bytes::{bytes_of, padded, words_of, write_front};
 use crate::word_row::WordRow;
 use keyed::bundle::Bundle;
 use std::marker::PhantomData;
@@ -101,7 +101,7 @@ impl<H: Arrangement> Bundle<WordRow> for Blocks<H> {
         if len % H::block_len() == 0 && len <= 64 {
             let (left, right) = self.halves();
             let bytes = bytes_of(&H::words_of(left, right));
-            run.copy_from_slice(&bytes[..len]);
+            write_front(&bytes, run);
         }
     }
 }

@@ -7,6 +7,26 @@ ghost use Rattle.vectors.specs.Vectors.{word64, vector_bytes};
 pub(crate) fn padded(run: &[u8]) -> [u8; 64]
     ensures { take (min (length run.now) 64) result ≡ take 64 run.now }
 {
+    if run.len() == 64 {
+        whole(run)
+    } else {
+        part(run)
+    }
+}
+
+// A full run: a copy of a known length is faster.
+fn whole(run: &[u8]) -> [u8; 64]
+    requires { length run.now ≡ 64 }
+    ensures { result ≡ run.now }
+{
+    let mut bytes = [0; 64];
+    bytes.copy_from_slice(run);
+    bytes
+}
+
+fn part(run: &[u8]) -> [u8; 64]
+    ensures { take (min (length run.now) 64) result ≡ take 64 run.now }
+{
     let len = run.len().min(64);
     let mut bytes = [0; 64];
     bytes[..len].copy_from_slice(&run[..len]);
@@ -54,4 +74,17 @@ fn word_of(bytes: [u8; 8]) -> u64
     ensures { word64 result ≡ bytes }
 {
     u64::from_be_bytes(bytes)
+}
+
+/// Writes the first bytes over a run of at most 64.
+pub(crate) fn write_front(bytes: &[u8; 64], run: &mut [u8])
+    requires { length run.old ≤ 64 }
+    ensures { run.new ≡ take (length run.old) bytes.now }
+{
+    let len = run.len();
+    if len == 64 {
+        run.copy_from_slice(bytes);
+    } else {
+        run.copy_from_slice(&bytes[..len]);
+    }
 }

@@ -11,5 +11,5 @@ returns-then-len-le64-clause-blocks g c = λ fine i within.
     let b = block_length l in
     let n = length c.args.run.now in
     let lt = lane_of_block l g.H.Lanes.lane_count i n g.met.H.Half.published g.met.H.Lanes.filled within c.if-len-le64.true in
-    ap (part b i) (c.copy_from_slice.ensures.after ∙ ap (take n) c.bytes_of-bytes.ensures) ∙ part-take b i n _ within ∙ c.words_of.ensures i lt
+    ap (part b i) (c.write_front.ensures ∙ ap (take n) c.bytes_of-bytes.ensures) ∙ part-take b i n _ within ∙ c.words_of.ensures i lt
     ∙ ap (λ x. block_at l.half i x c.halves.result.1) c.halves.ensures.left ∙ ap (block_at l.half i c.args.self.left) c.halves.ensures.right

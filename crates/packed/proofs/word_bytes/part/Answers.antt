@@ -1,6 +1,6 @@
 use Rattle.std.proofs.Common.{◌≡◌, length, min, take, ap, ◌∙◌, arith}
 use Rattle.std.proofs.lemmas.List.{length-take, take_min, take_at}
-use Rattle.packed.proofs.word_bytes.padded.Goals as goal
+use Rattle.packed.proofs.word_bytes.part.Goals as goal
 
 pub returns : goal.returns
 returns c =
