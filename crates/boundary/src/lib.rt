@@ -15,13 +15,7 @@ use modes::standard::StandardMode;
 use pages::setup::{EngineKind, Setup};
 
 /// Puts one run of the engine through it, at most as many blocks as it has lanes: there, or `back`.
-pub fn run(
-    variant: u32,
-    packed: bool,
-    back: bool,
-    key: &[u8],
-    run: &mut [u8],
-) -> u32
+pub fn run(variant: u32, packed: bool, back: bool, key: &[u8], run: &mut [u8]) -> u32
     ensures { Moved (run_refusal packed (length run.old)) variant back key.now run.old run.new result }
 {
     if runs::is_wide(variant) {
@@ -32,13 +26,7 @@ pub fn run(
 }
 
 /// Puts a row of any number of blocks through the engine, in runs of as many as it has lanes: there, or `back`.
-pub fn row(
-    variant: u32,
-    packed: bool,
-    back: bool,
-    key: &[u8],
-    row: &mut [u8],
-) -> u32
+pub fn row(variant: u32, packed: bool, back: bool, key: &[u8], row: &mut [u8]) -> u32
     ensures { Moved (row_refusal (length row.old)) variant back key.now row.old row.new result }
 {
     if runs::is_wide(variant) {
