@@ -10,7 +10,7 @@
 #include <string.h>
 #include <time.h>
 
-enum { PAGE_BLOCKS = 2048, MOST_SIDES = 8 };
+enum { PAGE_BLOCKS = 2048, FILLINGS = 20, MOST_SIDES = 8 };
 
 enum call { ENCIPHER, DECIPHER, SEAL_ECB, OPEN_ECB, SEAL_CBC, OPEN_CBC, FILL, CALLS };
 
@@ -96,7 +96,7 @@ static void take(double *least_so_far, double from)
         *least_so_far = taken;
 }
 
-static void pass(unsigned variant, enum call call)
+static void turn(unsigned variant, enum call call)
 {
     const size_t len = PAGE_BLOCKS * block_len(variant);
     struct times *t = &least[variant][call];
@@ -123,7 +123,8 @@ static void passes(struct random *r, unsigned long n)
             input.start_len = block_len(variant);
             fill_random(r, input.key, input.key_len);
             for (enum call call = 0; call < CALLS; call++)
-                pass(variant, call);
+                for (int i = 0; i < (call == FILL ? FILLINGS : 1); i++)
+                    turn(variant, call);
         }
 }
 
@@ -154,7 +155,11 @@ static void print_engine(bool is_packed)
             const struct times *t = &least[variant][call];
             const double blocks = call == FILL ? 1 : PAGE_BLOCKS, mine = t->rattle[is_packed] / blocks;
             const bool back = call == OPEN_ECB || call == OPEN_CBC;
-            printf("%-8u %-9s %9.1f %7.0f", variant, CALL_NAMES[call], mine, 1e3 * (double)block_len(variant) / mine);
+            printf("%-8u %-9s %9.1f", variant, CALL_NAMES[call], mine);
+            if (call == FILL)
+                printf("%8s", "");
+            else
+                printf(" %7.0f", 1e3 * (double)block_len(variant) / mine);
             for (int i = 0; i < OF_C; i++)
                 if (METHODS_OF_C[i]->packed == is_packed)
                     printf(" %13.1f", t->c[i] / blocks);
