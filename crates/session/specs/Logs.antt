@@ -4,9 +4,9 @@ use Rattle.std.specs.Prelude as std
 use Rattle.beatlog.specs.Calls.{View, view}
 use Rattle.keyed.specs.declared.engine.Keyed.{Keyed}
 use Rattle.plain.specs.declared.block.Block as plain
+use Rattle.plain.specs.declared.key_halves.KeyHalves.{KeyHalves}
 use Rattle.packed.specs.declared.blocks.Blocks as packed
 use Rattle.packed.specs.declared.word_row.WordRow.{WordRow}
-use Rattle.schedule.specs.declared.row.Row.{Row}
 use Rattle.words.specs.declared.pair.Pair.{Pair}
 use Rattle.words.specs.declared.word.Word.{Word}
 use Rattle.modes.specs.declared.standard.StandardMode.{StandardMode}
@@ -25,7 +25,7 @@ abbrev pub Wide : Type 0
 Wide = Pair Narrow
 
 -- by what the four engines and the mode say of themselves
-abbrev pub any_view : engines.Ghosts (Keyed (plain.Block Narrow) Row) → engines.Ghosts (Keyed (plain.Block Wide) Row) → engines.Ghosts (Keyed (packed.Blocks Narrow) WordRow) → engines.Ghosts (Keyed (packed.Blocks Wide) WordRow) → modes.Ghosts StandardMode → AnyLog → Option View
+abbrev pub any_view : engines.Ghosts (Keyed (plain.Block Narrow) (KeyHalves Narrow)) → engines.Ghosts (Keyed (plain.Block Wide) (KeyHalves Wide)) → engines.Ghosts (Keyed (packed.Blocks Narrow) WordRow) → engines.Ghosts (Keyed (packed.Blocks Wide) WordRow) → modes.Ghosts StandardMode → AnyLog → Option View
 any_view pn pw kn kw m None = std.None
 any_view pn pw kn kw m (PlainNarrow l) = Some (view pn m l)
 any_view pn pw kn kw m (PlainWide l) = Some (view pw m l)
