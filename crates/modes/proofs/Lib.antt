@@ -1,3 +1,4 @@
 pub mod Rows
+pub mod EngineRuns
+mod Groups
 mod MaskRows
-mod Runs

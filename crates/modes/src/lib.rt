@@ -4,6 +4,7 @@
 
 pub mod cbc;
 pub mod ecb;
+mod engine_runs;
 pub mod kept_block;
 mod masks;
 pub mod mode;

@@ -4,6 +4,7 @@ ghost use Rattle.std.specs.Prelude.{◌≡◌, ℕ, true, ◌+◌, ◌*◌, ◌/
 ghost use Rattle.ublock.specs.Laws.{Block};
 ghost use Rattle.modes.specs.Sealing.{blocks, joined, opened, previous, scheme, scheme_of, sealed, whole_blocks};
 
+use crate::engine_runs::{decipher_blocks, encipher_blocks};
 use crate::kept_block::KeptBlock;
 use crate::masks::{previous_block, write_masks};
 use crate::mode::Mode;
@@ -104,20 +105,17 @@ impl<E: Engine + Copy, M: Mode> Sealer<E, M> {
         self.open_rows(b, at, n, row, readings, &mut first, &mut last);
     }
 
-    // How many blocks are sealed at once: one where the mode needs the block before.
-    fn seal_width(&self) -> usize
+    // How many blocks are sealed at once, at most this many: one where the mode needs the block before.
+    fn seal_width(&self, most: usize) -> usize
+        requires { 0 < most }
         ensures positive { 0 < result }
-        ensures lanes { result ≤ E.lane_count }
+        ensures most { result ≤ most }
         ensures one { M.chained self.now.mode ≡ true → result ≤ 1 }
     {
-        if self.mode.needs_before() {
-            1
-        } else {
-            self.engine.lanes()
-        }
+        if self.mode.needs_before() { 1 } else { most }
     }
 
-    // Seals n blocks, in lanes where the mode needs no block before. The last two places are for masks.
+    // Seals n blocks in groups, of one block where the mode needs the block before. The last two places hold the masks of a group.
     fn seal_rows(
         &self,
         b: usize,
@@ -135,28 +133,28 @@ impl<E: Engine + Copy, M: Mode> Sealer<E, M> {
         requires last { length last.old ≡ 256 }
         ensures { row.new ≡ joined (sealed (scheme_of E.Engine M.Mode self.now) at.index (take b at.before.bytes) (blocks b n readings.now)) ++ drop (n * b) row.old }
     {
-        let width = self.seal_width();
+        let width = self.seal_width(first.len() / b);
         let mut i = 0;
         while i < n {
             let m = width.min(n - i);
             let (from, to) = (i * b, (i + m) * b);
             let before = KeptBlock::of(previous_block(b, &at.before.bytes[..b], i, row));
-            let (first_run, last_run) = (&mut first[..m * b], &mut last[..m * b]);
-            self.seal_run(
+            let (first_group, last_group) = (&mut first[..m * b], &mut last[..m * b]);
+            self.seal_group(
                 b,
                 at.index + i,
                 &before.bytes[..b],
                 m,
                 &readings[from..to],
                 &mut row[from..to],
-                first_run,
-                last_run,
+                first_group,
+                last_group,
             );
             i += m;
         }
     }
 
-    // Opens n blocks in lanes. The last two places are for masks.
+    // Opens n blocks in groups. The last two places hold the masks of a group.
     fn open_rows(
         &self,
         b: usize,
@@ -174,29 +172,29 @@ impl<E: Engine + Copy, M: Mode> Sealer<E, M> {
         requires last { length last.old ≡ 256 }
         ensures { readings.new ≡ joined (opened (scheme_of E.Engine M.Mode self.now) at.index (take b at.before.bytes) (blocks b n row.now)) ++ drop (n * b) readings.old }
     {
-        let width = self.engine.lanes();
+        let width = first.len() / b;
         let mut i = 0;
         while i < n {
             let m = width.min(n - i);
             let (from, to) = (i * b, (i + m) * b);
             let before = previous_block(b, &at.before.bytes[..b], i, row);
-            let (first_run, last_run) = (&mut first[..m * b], &mut last[..m * b]);
-            self.open_run(
+            let (first_group, last_group) = (&mut first[..m * b], &mut last[..m * b]);
+            self.open_group(
                 b,
                 at.index + i,
                 before,
                 m,
                 &row[from..to],
                 &mut readings[from..to],
-                first_run,
-                last_run,
+                first_group,
+                last_group,
             );
             i += m;
         }
     }
 
     // Seals n blocks at once, with the masks along the row of readings: so it is one block if the mode needs the block before.
-    fn seal_run(
+    fn seal_group(
         &self,
         b: usize,
         index: usize,
@@ -209,7 +207,6 @@ impl<E: Engine + Copy, M: Mode> Sealer<E, M> {
     )
         requires length { b ≡ E.block_length }
         requires before { length before.now ≡ b }
-        requires lanes { n ≤ E.lane_count }
         requires one { M.chained self.now.mode ≡ true → n ≤ 1 }
         requires readings { length readings.now ≡ n * b }
         requires row { length row.old ≡ n * b }
@@ -230,14 +227,12 @@ impl<E: Engine + Copy, M: Mode> Sealer<E, M> {
         );
         row.copy_from_slice(readings);
         add(row, first);
-        if self.engine.encipher(row).is_err() {
-            unreachable!()
-        }
+        encipher_blocks(&self.engine, b, n, row);
         add(row, last);
     }
 
     // Opens n blocks at once. The masks follow the sealed blocks, which all stand in `row`.
-    fn open_run(
+    fn open_group(
         &self,
         b: usize,
         index: usize,
@@ -250,7 +245,6 @@ impl<E: Engine + Copy, M: Mode> Sealer<E, M> {
     )
         requires length { b ≡ E.block_length }
         requires before { length before.now ≡ b }
-        requires lanes { n ≤ E.lane_count }
         requires row { length row.now ≡ n * b }
         requires readings { length readings.old ≡ n * b }
         requires first { length first.old ≡ n * b }
@@ -270,9 +264,7 @@ impl<E: Engine + Copy, M: Mode> Sealer<E, M> {
         );
         readings.copy_from_slice(row);
         add(readings, last);
-        if self.engine.decipher(readings).is_err() {
-            unreachable!()
-        }
+        decipher_blocks(&self.engine, b, n, readings);
         add(readings, first);
     }
 }

@@ -1,20 +1,19 @@
--- Runs of blocks: between masks, and one after the other.
-use Rattle.std.proofs.Common.{◌≡◌, ℕ, zero, suc, ◌+◌, ◌-◌, ◌*◌, ◌/◌, ◌%◌, ◌<◌, ◌≤◌, true, false, List, ◌++◌, length, take, drop, refl, sym, ap, subst, ◌∙◌, arith, append_assoc, length-drop, ⊎_elim}
-use Rattle.std.proofs.Math.Nat.{suc-mul, add-mul, mul-mod_left, mul-div_cancel}
+-- Groups of blocks: between masks, and one after the other.
+use Rattle.std.proofs.Common.{◌≡◌, ℕ, zero, suc, ◌+◌, ◌-◌, ◌*◌, ◌≤◌, true, List, ◌++◌, length, take, drop, refl, sym, ap, subst, ◌∙◌, arith, append_assoc, length-drop, ⊎_elim}
+use Rattle.std.proofs.Math.Nat.{suc-mul, add-mul}
 use Rattle.std.proofs.lemmas.Bool.{cases_Bool}
-use Rattle.std.proofs.lemmas.Bool.Decides.{nat_tests}
 use Rattle.std.proofs.lemmas.List.{drop-drop, length-take-le, take-append-drop, take_at, drop_at}
 use Rattle.std.proofs.lemmas.Nat.{mul-le}
 use borrow.Rule.Slice.PartMut.{put_mid}
 use Rattle.ublock.specs.Cipher.{xor}
 use Rattle.ublock.specs.Laws.{Bytes, Block}
 use Rattle.ublock.proofs.Bytes.{length-xor, xor-append}
-use Rattle.cipher.specs.Engines.{Answer, Ran, each, refused}
-use Rattle.modes.specs.Modes.{BlockLength, Mask}
+use Rattle.cipher.specs.Engines.{each}
+use Rattle.modes.specs.Modes.{Mask}
 use Rattle.modes.specs.Sealing.{Scheme, Lawful, AllBlocks, AllLong, along, blocks, joined, last_block, masks_along, open_block, opened, previous, seal_block, sealed}
 use Rattle.modes.proofs.Rows.{along_add, blocks_are_blocks, blocks_long, blocks_take, joined_append, length_blocks, length_joined, length_opened, length_sealed, opened_long, previous_joined, sealed_add, sealed_free, sealed_long}
 
--- ---- a run of blocks between masks
+-- ---- a group of blocks between masks
 module _ (b : ℕ) (enc : List ℕ → List ℕ) (g h : ℕ → List ℕ → List ℕ) (keeps : (x : List ℕ) → length x ≡ b → length (enc x) ≡ b)
     (long_g : (j : ℕ) (u : List ℕ) → length u ≡ b → length (g j u) ≡ b) (long_h : (j : ℕ) (u : List ℕ) → length u ≡ b → length (h j u) ≡ b) where
   masked_blocks : (n i : ℕ) (w xs : List ℕ) → length w ≡ b → length xs ≡ n * b
@@ -41,27 +40,19 @@ module _ (b : ℕ) (enc : List ℕ → List ℕ) (g h : ℕ → List ℕ → Lis
       ∙ xor-append (enc y) o (each b enc n ys) os (keeps y ly ∙ sym (long_h i w lw))
       ∙ ap (λ z. xor (enc y) o ++ z) (masked_blocks n (suc i) x rest lx lr)
 
-accepted : (b lanes n m : ℕ) → BlockLength b → n ≤ lanes → m ≡ n * b → (refused b lanes m ≡ false) × (m / b ≡ n)
-accepted b lanes n m s few e =
-    let pos : 0 < b = ⊎_elim (λ q. omega arith) (λ q. omega arith) s in
-    let odd : m % b ≡ 0 = ap (λ k. k % b) e ∙ mul-mod_left n b in
-    let most : n * b ≤ lanes * b = mul-le n b lanes b few (omega arith) in
-    (grind (arith, nat_tests), ap (λ k. k / b) e ∙ mul-div_cancel n pos)
-
--- what a run of n blocks is, with a mask added to each before the engine and another after it
-pub run_masked : (s : Scheme) → Lawful s → (b lanes n i : ℕ) (v w xs a z r0 r1 r2 r3 : List ℕ) (answer : Answer Unit)
-    → b ≡ s.size → v ≡ s.start → n ≤ lanes → length w ≡ b → length xs ≡ n * b
+-- what a group of n blocks is, with a mask added to each before the engine and another after it
+pub group_masked : (s : Scheme) → Lawful s → (b n i : ℕ) (v w xs a z r0 r1 r2 r3 : List ℕ)
+    → b ≡ s.size → v ≡ s.start → length w ≡ b → length xs ≡ n * b
     → a ≡ masks_along s.first v i w (blocks (length v) n xs) → z ≡ masks_along s.last v i w (blocks (length v) n xs)
-    → r0 ≡ xs → r1 ≡ xor r0 a → Ran s.size lanes s.enc r1 r2 answer → r3 ≡ xor r2 z → r3 ≡ joined (along (seal_block s) i w (blocks b n xs))
-run_masked s ok b lanes n i v w xs a z r0 r1 r2 r3 answer e ev few lw long is_a is_z is0 is1 ran is3 =
+    → r0 ≡ xs → r1 ≡ xor r0 a → r2 ≡ each b s.enc n r1 → r3 ≡ xor r2 z → r3 ≡ joined (along (seal_block s) i w (blocks b n xs))
+group_masked s ok b n i v w xs a z r0 r1 r2 r3 e ev lw long is_a is_z is0 is1 is2 is3 =
     let p = s.size in
     let masks : Mask → List ℕ = λ f. masks_along f s.start i w (blocks p n xs) in
     let mask : (f : Mask) → masks_along f v i w (blocks (length v) n xs) ≡ masks f =
     λ f. ap (λ k. masks_along f k i w (blocks (length k) n xs)) ev ∙ ap (λ k. masks_along f s.start i w (blocks k n xs)) ok.start.long in
     let lx : length xs ≡ n * p = long ∙ ap (λ k. n * k) e in
-    let fine = accepted p lanes n (length r1) ok.length few (ap length is1 ∙ length-xor r0 a ∙ ap length is0 ∙ lx) in
     let e1 : r1 ≡ xor xs (masks s.first) = is1 ∙ ap (λ k. xor k a) is0 ∙ ap (xor xs) (is_a ∙ mask s.first) in
-    let e2 : r2 ≡ each p s.enc n r1 = ran.run ∙ rw fine.0 (ap (λ k. each p s.enc k r1) fine.1) in
+    let e2 : r2 ≡ each p s.enc n r1 = is2 ∙ ap (λ k. each k s.enc n r1) e in
     is3 ∙ ap (λ k. xor k z) (e2 ∙ ap (each p s.enc n) e1) ∙ ap (xor (each p s.enc n (xor xs (masks s.first)))) (is_z ∙ mask s.last)
     ∙ masked_blocks p s.enc (s.first s.start) (s.last s.start) ok.permutes.enc_long (λ j u. ok.rule.first.long s.start j u ok.start.long)
     (λ j u. ok.rule.last.long s.start j u ok.start.long) n i w xs (lw ∙ e) lx
