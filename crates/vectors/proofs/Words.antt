@@ -1,10 +1,9 @@
 -- A 64-bit word as its eight bytes, and a vector as those of its words.
-use Rattle.std.proofs.Common.{◌≡◌, ℕ, ◌*◌, ◌/◌, ◌%◌, ◌^◌, List, [], ◌∷◌, ◌++◌, map, length, get_or, sym, refl, ap, ◌∙◌, arith, Fits, w64}
+use Rattle.std.proofs.Common.{◌≡◌, ℕ, ◌*◌, ◌/◌, ◌%◌, ◌^◌, List, [], ◌∷◌, ◌++◌, map, length, sym, refl, ap, ◌∙◌, arith, Fits, w64}
 use lib.Bits.{bit_xor}
 use lib.Lanes.{Each1, zip2}
 use Rattle.std.proofs.lemmas.List.{map-append, length-append}
 use Rattle.std.proofs.lemmas.Nat.{xor_shr}
-use Rattle.std.proofs.lemmas.Simd.{pick_l_whole}
 use Rattle.ublock.specs.Cipher.{xor, be4}
 use Rattle.ublock.specs.Laws.{Bytes}
 use Rattle.ublock.proofs.Bytes.{xor-append, bytes-append}
@@ -45,15 +44,22 @@ word64-xor x y =
     ∙ ap (λ zs. xor (be4 (x / 2 ^ 32)) (be4 (y / 2 ^ 32)) ++ zs) (be4-xor x y)
 
 -- ---- the words of a vector
-vector_bytes-map : (f g : ℕ → ℕ) → ((w : ℕ) → word64 (f w) ≡ map g (word64 w)) → (ws : List ℕ) → vector_bytes (map f ws) ≡ map g (vector_bytes ws)
-vector_bytes-map f g e [] = refl
-vector_bytes-map f g e (w ∷ ws) =
-    ap (λ xs. xs ++ vector_bytes (map f ws)) (e w) ∙ ap (λ ys. map g (word64 w) ++ ys) (vector_bytes-map f g e ws) ∙ sym (map-append g (word64 w) (vector_bytes ws))
+-- two vectors word by word through f, which acts on the bytes of the one as g
+pub vector_bytes-zip : (f : ℕ → ℕ → ℕ) (g : ℕ → ℕ) → ((u v : ℕ) → word64 (f u v) ≡ map g (word64 u)) → (us vs : List ℕ) → length us ≡ length vs
+    → vector_bytes (zip2 f us vs) ≡ map g (vector_bytes us)
+vector_bytes-zip f g e [] vs l = refl
+vector_bytes-zip f g e (u ∷ us) [] l = absurd (omega arith)
+vector_bytes-zip f g e (u ∷ us) (v ∷ vs) l =
+    ap (λ xs. xs ++ vector_bytes (zip2 f us vs)) (e u v) ∙ ap (λ ys. map g (word64 u) ++ ys) (vector_bytes-zip f g e us vs (omega arith)) ∙ sym (map-append g (word64 u) (vector_bytes us))
 
--- a vector whose every word went through f
-pub through_each : (f g : ℕ → ℕ) → ((w : ℕ) → word64 (f w) ≡ map g (word64 w)) → (ws : List ℕ) → length ws ≡ 4
-    → vector_bytes (f (get_or ws 0 0) ∷ f (get_or ws 1 0) ∷ f (get_or ws 2 0) ∷ f (get_or ws 3 0) ∷ []) ≡ map g (vector_bytes ws)
-through_each f g e ws l = ap (λ vs. vector_bytes (map f vs)) (pick_l_whole 0 ws 4 l) ∙ vector_bytes-map f g e ws
+-- the same, where it acts on the other's
+pub vector_bytes-zip_right : (f : ℕ → ℕ → ℕ) (g : ℕ → ℕ) → ((u v : ℕ) → word64 (f u v) ≡ map g (word64 v)) → (us vs : List ℕ) → length us ≡ length vs
+    → vector_bytes (zip2 f us vs) ≡ map g (vector_bytes vs)
+vector_bytes-zip_right f g e [] [] l = refl
+vector_bytes-zip_right f g e (u ∷ us) [] l = absurd (omega arith)
+vector_bytes-zip_right f g e [] (v ∷ vs) l = absurd (omega arith)
+vector_bytes-zip_right f g e (u ∷ us) (v ∷ vs) l =
+    ap (λ xs. xs ++ vector_bytes (zip2 f us vs)) (e u v) ∙ ap (λ ys. map g (word64 v) ++ ys) (vector_bytes-zip_right f g e us vs (omega arith)) ∙ sym (map-append g (word64 v) (vector_bytes vs))
 
 pub vector_bytes-xor : (xs ys : List ℕ) → length xs ≡ length ys → vector_bytes (zip2 bit_xor xs ys) ≡ xor (vector_bytes xs) (vector_bytes ys)
 vector_bytes-xor [] ys e = refl

@@ -1,1 +1,2 @@
 pub mod Vectors
+pub mod Circuits

@@ -18,10 +18,8 @@ pub fn round<H: Lanes>(
 ) -> (u64x4, u64x4)
     ensures { (i : ℕ) → i < H.lane_count → block_at H.layout.half i result.0 result.1 ≡ round H.layout (block_at H.layout.half i key_left key_right) (block_at H.layout.half i left right) }
 {
-    let (left, right) = mix(
-        substitute(xor(left, key_left)),
-        substitute(xor(right, key_right)),
-    );
+    let (left, right) = substitute(xor(left, key_left), xor(right, key_right));
+    let (left, right) = mix(left, right);
     (H::permute_left_lanes(left), H::permute_right_lanes(right))
 }
 
@@ -38,8 +36,6 @@ pub fn inverse_round<H: Lanes>(
         H::unpermute_left_lanes(left),
         H::unpermute_right_lanes(right),
     );
-    (
-        xor(unsubstitute(left), key_left),
-        xor(unsubstitute(right), key_right),
-    )
+    let (left, right) = unsubstitute(left, right);
+    (xor(left, key_left), xor(right, key_right))
 }

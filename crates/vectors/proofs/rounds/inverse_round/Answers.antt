@@ -12,4 +12,4 @@ returns g c =
     _ _ _ _ _ _ _ _ _ _ _ _
     (length_in_parts _ _ c.args.left met.Lanes.filled c.fits-left.0) (length_in_parts _ _ c.unmix.result.0 met.Lanes.filled long)
     (length_in_parts _ _ c.args.key_left met.Lanes.filled c.fits-key_left.0)
-    c.unpermute_left_lanes.ensures c.unpermute_right_lanes.ensures c.unmix.ensures c.unsubstitute.ensures c.unsubstitute-2.ensures c.xor.ensures c.xor-2.ensures
+    c.unpermute_left_lanes.ensures c.unpermute_right_lanes.ensures c.unmix.ensures c.unsubstitute.ensures.left c.unsubstitute.ensures.right c.xor.ensures c.xor-2.ensures
