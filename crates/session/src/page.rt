@@ -45,7 +45,8 @@ impl Page {
         }
     }
 
-    /// Makes it the page of a new log.
+    /// Makes it the page of a new log. Not inlined, so that a line that begins none clears no log.
+    #[inline(never)]
     pub(crate) fn begin(&mut self, new: &NewLog) -> Result<AnyLog, LogFault>
         ensures number { (log_answer result).number ≡ new_number new.now }
         ensures log { IfOk result (λ log. ⟦<AnyLog as Viewed>⟧.viewed log ≡ new_log (numbered new.now.variant) new.now) }
