@@ -40,7 +40,7 @@ void draw_run(struct random *r, struct run_case *c)
 {
     c->variant = draw_variant(r);
     c->packed = one_in(r, 2);
-    c->back = one_in(r, 2);
+    c->decipher = one_in(r, 2);
     c->key_len = one_in(r, 24) ? below(r, MOST_KEY + 1) : key_len(c->variant);
     draw_key(r, c->key, c->key_len);
     const size_t b = block_len(c->variant), most = lanes(method_of(c->packed), b);

@@ -12,7 +12,7 @@ extern const struct method table, packed;
 /* A run of an engine. */
 struct run_case {
     unsigned variant;
-    bool packed, back;
+    bool packed, decipher;
     size_t key_len, len;
     uint8_t key[MOST_KEY], run[MOST_RUN];
 };

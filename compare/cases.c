@@ -28,13 +28,13 @@ static void write_run(const struct run_case *c)
 {
     uint8_t run[2][MOST_RUN];
     int number[2];
-    fprintf(inputs, "%s %u", c->back ? "decipher" : "encipher", c->variant);
+    fprintf(inputs, "%s %u", c->decipher ? "decipher" : "encipher", c->variant);
     write_bytes(inputs, c->key, c->key_len);
     write_bytes(inputs, c->run, c->len);
     fputs("\n", inputs);
     for (int i = 0; i < 2; i++) {
         memcpy(run[i], c->run, c->len);
-        number[i] = run_blocks(method_of(i), c->variant, c->back, c->key, c->key_len, run[i], c->len);
+        number[i] = run_blocks(method_of(i), c->variant, c->decipher, c->key, c->key_len, run[i], c->len);
     }
     write_answer(number[0], run[0], c->len);
     if (number[0] != number[1] || memcmp(run[0], run[1], c->len) != 0) {

@@ -21,7 +21,7 @@ static void show(const char *name, const uint8_t *bytes, size_t len)
 
 static void fail_run(const char *what, const struct run_case *c)
 {
-    printf("DIFFERENT, %s: variant %u, %s engine, %s\n", what, c->variant, c->packed ? "packed" : "plain", c->back ? "back" : "there");
+    printf("DIFFERENT, %s: variant %u, %s engine, %s\n", what, c->variant, c->packed ? "packed" : "plain", c->decipher ? "deciphered" : "enciphered");
     show("key", c->key, c->key_len);
     show("run", c->run, c->len);
     exit(1);
@@ -43,8 +43,8 @@ static void compare_run(const struct run_case *c)
     uint8_t of_c[MOST_RUN], of_rattle[MOST_RUN];
     memcpy(of_c, c->run, c->len);
     memcpy(of_rattle, c->run, c->len);
-    const int number = run_blocks(method_of(c->packed), c->variant, c->back, c->key, c->key_len, of_c, c->len);
-    const uint32_t answer = weddrul_run(c->variant, c->packed, c->back, c->key, c->key_len, of_rattle, c->len);
+    const int number = run_blocks(method_of(c->packed), c->variant, c->decipher, c->key, c->key_len, of_c, c->len);
+    const uint32_t answer = weddrul_run(c->variant, c->packed, c->decipher, c->key, c->key_len, of_rattle, c->len);
     compared++;
     if (answer != (uint32_t)number)
         fail_run("number of a run", c);
@@ -55,7 +55,7 @@ static void compare_run(const struct run_case *c)
             fail_run("a refused run changed", c);
         return;
     }
-    run_blocks(method_of(c->packed), c->variant, !c->back, c->key, c->key_len, of_rattle, c->len);
+    run_blocks(method_of(c->packed), c->variant, !c->decipher, c->key, c->key_len, of_rattle, c->len);
     if (memcmp(of_rattle, c->run, c->len) != 0)
         fail_run("a run taken back", c);
 }
@@ -72,8 +72,8 @@ static void compare_row(const struct run_case *c)
     if (number == DONE && c->len % e.block != 0)
         number = RUN_LENGTH;
     if (number == DONE)
-        (c->back ? other->decipher : other->encipher)(&e, of_c, of_c, c->len / e.block);
-    const uint32_t answer = weddrul_row(c->variant, c->packed, c->back, c->key, c->key_len, of_rattle, c->len);
+        (c->decipher ? other->decipher : other->encipher)(&e, of_c, of_c, c->len / e.block);
+    const uint32_t answer = weddrul_row(c->variant, c->packed, c->decipher, c->key, c->key_len, of_rattle, c->len);
     compared++;
     if (answer != (uint32_t)number)
         fail_run("number of a row", c);
@@ -134,10 +134,10 @@ static void chosen_runs(struct random *r, unsigned variant, bool is_packed)
             c.key[k / 8] = (uint8_t)(0x80 >> k % 8);
         for (size_t blocks = 0; blocks <= most + 1; blocks++) {
             c.len = blocks * b;
-            c.back = blocks % 2;
+            c.decipher = blocks % 2;
             fill_random(r, c.run, c.len);
             compare_run(&c);
-            c.back = !c.back;
+            c.decipher = !c.decipher;
             compare_run(&c);
             compare_row(&c);
         }

@@ -20,7 +20,7 @@ enum { NARROW = 4, WIDE = 2 };
 #define BIT2 0x4444444444444444
 #define BIT3 0x8888888888888888
 
-INLINE uint64_t sub(uint64_t w)
+INLINE uint64_t substituted(uint64_t w)
 {
     w ^= ~(w >> 2 & w >> 3) & BIT0;
     w ^= (w << 2 | w << 1) & BIT3;
@@ -29,7 +29,7 @@ INLINE uint64_t sub(uint64_t w)
     return w;
 }
 
-INLINE uint64_t sub_back(uint64_t w)
+INLINE uint64_t unsubstituted(uint64_t w)
 {
     w ^= (w << 1 | w >> 2) & BIT1;
     w ^= ~(w << 2 & w << 1) & BIT2;
@@ -38,38 +38,15 @@ INLINE uint64_t sub_back(uint64_t w)
     return w;
 }
 
-/* Both 32-bit pieces of a word turned left. */
-INLINE uint64_t turned(uint64_t w, unsigned b)
+/* Both 32-bit pieces of a word rotated left. */
+INLINE uint64_t rotated(uint64_t w, unsigned b)
 {
     const uint64_t low = ((uint64_t)1 << b) - 1;
     return (w << b & ~(low << 32 | low)) | (w >> (32 - b) & (low << 32 | low));
 }
 
-INLINE void mix(uint64_t *left, uint64_t *right)
-{
-    uint64_t x0 = *left, x1 = *right;
-    x1 ^= x0;
-    x0 ^= turned(x1, 4);
-    x1 ^= turned(x0, 8);
-    x0 ^= turned(x1, 8);
-    x1 ^= turned(x0, 20);
-    x0 ^= x1;
-    *left = x0;
-    *right = x1;
-}
-
-INLINE void unmix(uint64_t *left, uint64_t *right)
-{
-    uint64_t x0 = *left, x1 = *right;
-    x0 ^= x1;
-    x1 ^= turned(x0, 20);
-    x0 ^= turned(x1, 8);
-    x1 ^= turned(x0, 8);
-    x0 ^= turned(x1, 4);
-    x1 ^= x0;
-    *left = x0;
-    *right = x1;
-}
+#define PIECE uint64_t
+#include "mixing.h"
 
 /* The byte permutations, over one word or two. Bytes that move by as much move together. */
 
@@ -94,7 +71,7 @@ INLINE uint64_t PR128(uint64_t x)
         | (x & 0x00000000000000ff) << 48;
 }
 
-INLINE uint64_t PL128_BACK(uint64_t x)
+INLINE uint64_t PL128_INVERSE(uint64_t x)
 {
     return (x & 0x000000ff00000000) >> 24
         | (x & 0x00ffff0000000000) >> 16
@@ -104,7 +81,7 @@ INLINE uint64_t PL128_BACK(uint64_t x)
         | (x & 0x00000000ff000000) << 32;
 }
 
-INLINE uint64_t PR128_BACK(uint64_t x)
+INLINE uint64_t PR128_INVERSE(uint64_t x)
 {
     return (x & 0x00ff000000000000) >> 48
         | (x & 0x0000ff0000000000) >> 24
@@ -161,7 +138,7 @@ INLINE uint64_t PR256_1(uint64_t x, uint64_t y)
         | (y & 0x0000000000ff0000) << 24;
 }
 
-INLINE uint64_t PL256_BACK_0(uint64_t x, uint64_t y)
+INLINE uint64_t PL256_INVERSE_0(uint64_t x, uint64_t y)
 {
     return (x & 0x00ff000000000000) >> 48
         | (x & 0xff00000000000000) >> 16
@@ -173,7 +150,7 @@ INLINE uint64_t PL256_BACK_0(uint64_t x, uint64_t y)
         | (y & 0x00000000000000ff) << 56;
 }
 
-INLINE uint64_t PL256_BACK_1(uint64_t x, uint64_t y)
+INLINE uint64_t PL256_INVERSE_1(uint64_t x, uint64_t y)
 {
     return (x & 0x000000ff00000000) >> 16
         | (x & 0x0000ff0000000000) << 16
@@ -185,7 +162,7 @@ INLINE uint64_t PL256_BACK_1(uint64_t x, uint64_t y)
         | (y & 0x0000000000ff0000) << 16;
 }
 
-INLINE uint64_t PR256_BACK_0(uint64_t x, uint64_t y)
+INLINE uint64_t PR256_INVERSE_0(uint64_t x, uint64_t y)
 {
     return (x & 0xff00000000000000) >> 48
         | (x & 0x0000ff0000ff0000) << 8
@@ -195,7 +172,7 @@ INLINE uint64_t PR256_BACK_0(uint64_t x, uint64_t y)
         | (y & 0x0000000000ff00ff) << 16;
 }
 
-INLINE uint64_t PR256_BACK_1(uint64_t x, uint64_t y)
+INLINE uint64_t PR256_INVERSE_1(uint64_t x, uint64_t y)
 {
     return (x & 0x00ff000000000000) >> 16
         | (x & 0x000000ff00000000) >> 8
@@ -242,7 +219,7 @@ INLINE void store_narrow(const struct narrow *x, uint8_t *to, size_t blocks)
     }
 }
 
-INLINE void narrow_there(const struct ublock *e, uint8_t *to, const uint8_t *from, size_t blocks)
+INLINE void encipher_narrow(const struct ublock *e, uint8_t *to, const uint8_t *from, size_t blocks)
 {
     struct narrow x;
     load_narrow(&x, from, blocks);
@@ -251,7 +228,7 @@ INLINE void narrow_there(const struct ublock *e, uint8_t *to, const uint8_t *fro
         key = e->words[n];
         const uint64_t kl = key[0], kr = key[1];
         for (size_t i = 0; i < NARROW; i++) {
-            uint64_t l = sub(x.left[i] ^ kl), r = sub(x.right[i] ^ kr);
+            uint64_t l = substituted(x.left[i] ^ kl), r = substituted(x.right[i] ^ kr);
             mix(&l, &r);
             x.left[i] = PL128(l);
             x.right[i] = PR128(r);
@@ -265,7 +242,7 @@ INLINE void narrow_there(const struct ublock *e, uint8_t *to, const uint8_t *fro
     store_narrow(&x, to, blocks);
 }
 
-INLINE void narrow_back(const struct ublock *e, uint8_t *to, const uint8_t *from, size_t blocks)
+INLINE void decipher_narrow(const struct ublock *e, uint8_t *to, const uint8_t *from, size_t blocks)
 {
     struct narrow x;
     load_narrow(&x, from, blocks);
@@ -278,10 +255,10 @@ INLINE void narrow_back(const struct ublock *e, uint8_t *to, const uint8_t *from
         key = e->words[n];
         const uint64_t kl = key[0], kr = key[1];
         for (size_t i = 0; i < NARROW; i++) {
-            uint64_t l = PL128_BACK(x.left[i]), r = PR128_BACK(x.right[i]);
+            uint64_t l = PL128_INVERSE(x.left[i]), r = PR128_INVERSE(x.right[i]);
             unmix(&l, &r);
-            x.left[i] = sub_back(l) ^ kl;
-            x.right[i] = sub_back(r) ^ kr;
+            x.left[i] = unsubstituted(l) ^ kl;
+            x.right[i] = unsubstituted(r) ^ kr;
         }
     }
     store_narrow(&x, to, blocks);
@@ -322,15 +299,15 @@ INLINE void add_wide(struct wide *x, const uint64_t *key)
     }
 }
 
-INLINE void wide_there(const struct ublock *e, uint8_t *to, const uint8_t *from, size_t blocks)
+INLINE void encipher_wide(const struct ublock *e, uint8_t *to, const uint8_t *from, size_t blocks)
 {
     struct wide x;
     load_wide(&x, from, blocks);
     for (unsigned n = 0; n < e->rounds; n++) {
         const uint64_t k0 = e->words[n][0], k1 = e->words[n][1], k2 = e->words[n][2], k3 = e->words[n][3];
         for (size_t i = 0; i < WIDE; i++) {
-            uint64_t l0 = sub(x.left0[i] ^ k0), l1 = sub(x.left1[i] ^ k1);
-            uint64_t r0 = sub(x.right0[i] ^ k2), r1 = sub(x.right1[i] ^ k3);
+            uint64_t l0 = substituted(x.left0[i] ^ k0), l1 = substituted(x.left1[i] ^ k1);
+            uint64_t r0 = substituted(x.right0[i] ^ k2), r1 = substituted(x.right1[i] ^ k3);
             mix(&l0, &r0);
             mix(&l1, &r1);
             x.left0[i] = PL256_0(l0, l1);
@@ -343,7 +320,7 @@ INLINE void wide_there(const struct ublock *e, uint8_t *to, const uint8_t *from,
     store_wide(&x, to, blocks);
 }
 
-INLINE void wide_back(const struct ublock *e, uint8_t *to, const uint8_t *from, size_t blocks)
+INLINE void decipher_wide(const struct ublock *e, uint8_t *to, const uint8_t *from, size_t blocks)
 {
     struct wide x;
     load_wide(&x, from, blocks);
@@ -351,48 +328,43 @@ INLINE void wide_back(const struct ublock *e, uint8_t *to, const uint8_t *from, 
     for (unsigned n = e->rounds; n-- > 0;) {
         const uint64_t k0 = e->words[n][0], k1 = e->words[n][1], k2 = e->words[n][2], k3 = e->words[n][3];
         for (size_t i = 0; i < WIDE; i++) {
-            uint64_t l0 = PL256_BACK_0(x.left0[i], x.left1[i]), l1 = PL256_BACK_1(x.left0[i], x.left1[i]);
-            uint64_t r0 = PR256_BACK_0(x.right0[i], x.right1[i]), r1 = PR256_BACK_1(x.right0[i], x.right1[i]);
+            uint64_t l0 = PL256_INVERSE_0(x.left0[i], x.left1[i]), l1 = PL256_INVERSE_1(x.left0[i], x.left1[i]);
+            uint64_t r0 = PR256_INVERSE_0(x.right0[i], x.right1[i]), r1 = PR256_INVERSE_1(x.right0[i], x.right1[i]);
             unmix(&l0, &r0);
             unmix(&l1, &r1);
-            x.left0[i] = sub_back(l0) ^ k0;
-            x.left1[i] = sub_back(l1) ^ k1;
-            x.right0[i] = sub_back(r0) ^ k2;
-            x.right1[i] = sub_back(r1) ^ k3;
+            x.left0[i] = unsubstituted(l0) ^ k0;
+            x.left1[i] = unsubstituted(l1) ^ k1;
+            x.right0[i] = unsubstituted(r0) ^ k2;
+            x.right1[i] = unsubstituted(r1) ^ k3;
         }
     }
     store_wide(&x, to, blocks);
 }
 
-/* Full groups of blocks, then what is left. */
+/* Full groups of blocks of `block` bytes, then what is left. */
+INLINE void in_groups(void (*group)(const struct ublock *, uint8_t *, const uint8_t *, size_t), size_t size, size_t block,
+    const struct ublock *e, uint8_t *to, const uint8_t *from, size_t blocks)
+{
+    for (; blocks >= size; blocks -= size, to += block * size, from += block * size)
+        group(e, to, from, size);
+    if (blocks)
+        group(e, to, from, blocks);
+}
+
 static void encipher(const struct ublock *e, uint8_t *to, const uint8_t *from, size_t blocks)
 {
-    if (e->block == 16) {
-        for (; blocks >= NARROW; blocks -= NARROW, to += 16 * NARROW, from += 16 * NARROW)
-            narrow_there(e, to, from, NARROW);
-        if (blocks)
-            narrow_there(e, to, from, blocks);
-    } else {
-        for (; blocks >= WIDE; blocks -= WIDE, to += 32 * WIDE, from += 32 * WIDE)
-            wide_there(e, to, from, WIDE);
-        if (blocks)
-            wide_there(e, to, from, blocks);
-    }
+    if (e->block == 16)
+        in_groups(encipher_narrow, NARROW, 16, e, to, from, blocks);
+    else
+        in_groups(encipher_wide, WIDE, 32, e, to, from, blocks);
 }
 
 static void decipher(const struct ublock *e, uint8_t *to, const uint8_t *from, size_t blocks)
 {
-    if (e->block == 16) {
-        for (; blocks >= NARROW; blocks -= NARROW, to += 16 * NARROW, from += 16 * NARROW)
-            narrow_back(e, to, from, NARROW);
-        if (blocks)
-            narrow_back(e, to, from, blocks);
-    } else {
-        for (; blocks >= WIDE; blocks -= WIDE, to += 32 * WIDE, from += 32 * WIDE)
-            wide_back(e, to, from, WIDE);
-        if (blocks)
-            wide_back(e, to, from, blocks);
-    }
+    if (e->block == 16)
+        in_groups(decipher_narrow, NARROW, 16, e, to, from, blocks);
+    else
+        in_groups(decipher_wide, WIDE, 32, e, to, from, blocks);
 }
 
 static int fill(struct ublock *e, unsigned variant, const uint8_t *key, size_t key_len)

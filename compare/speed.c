@@ -16,7 +16,7 @@ enum call { ENCIPHER, DECIPHER, SEAL_ECB, OPEN_ECB, SEAL_CBC, OPEN_CBC, FILL, CA
 
 static const char *const CALL_NAMES[CALLS] = { "encipher", "decipher", "seal ECB", "open ECB", "seal CBC", "open CBC", "fill" };
 
-/* The builds of C, as build.sh made them: two compilers, the table by bytes and by nibbles. */
+/* The builds of C, as compare/speed made them: two compilers, the table by bytes and by nibbles. */
 #define METHOD(name) extern const struct method name;
 METHODS(METHOD)
 #define ENTRY(name) &name,
@@ -53,13 +53,13 @@ static uint32_t by_rattle(enum call call, bool is_packed, size_t len)
     }
 }
 
-static int row_by_c(const struct method *m, bool back, size_t len)
+static int row_by_c(const struct method *m, bool decipher, size_t len)
 {
     struct ublock e;
     const int refused = m->fill(&e, input.variant, input.key, input.key_len);
     if (refused)
         return refused;
-    (back ? m->decipher : m->encipher)(&e, row, row, len / e.block);
+    (decipher ? m->decipher : m->encipher)(&e, row, row, len / e.block);
     return DONE;
 }
 
@@ -154,7 +154,7 @@ static void print_engine(bool is_packed)
         for (enum call call = 0; call < CALLS; call++) {
             const struct times *t = &least[variant][call];
             const double blocks = call == FILL ? 1 : PAGE_BLOCKS, mine = t->rattle[is_packed] / blocks;
-            const bool back = call == OPEN_ECB || call == OPEN_CBC;
+            const bool opens = call == OPEN_ECB || call == OPEN_CBC;
             printf("%-8u %-9s %9.1f", variant, CALL_NAMES[call], mine);
             if (call == FILL)
                 printf("%8s", "");
@@ -165,7 +165,7 @@ static void print_engine(bool is_packed)
                     printf(" %13.1f", t->c[i] / blocks);
             printf(" %9.2f", t->c[best_of_c(t, is_packed)] / t->rattle[is_packed]);
             if (call >= SEAL_ECB && call <= OPEN_CBC)
-                printf(" %9.2f", t->rattle[is_packed] / least[variant][back ? DECIPHER : ENCIPHER].rattle[is_packed]);
+                printf(" %9.2f", t->rattle[is_packed] / least[variant][opens ? DECIPHER : ENCIPHER].rattle[is_packed]);
             printf("\n");
         }
 }

@@ -13,22 +13,22 @@
 
 #ifdef NIBBLES
 static const uint8_t S[16] = { 0x7, 0x4, 0x9, 0xc, 0xb, 0xa, 0xd, 0x8, 0xf, 0xe, 0x1, 0x6, 0x0, 0x3, 0x2, 0x5 };
-static const uint8_t S_BACK[16] = { 0xc, 0xa, 0xe, 0xd, 0x1, 0xf, 0xb, 0x0, 0x7, 0x2, 0x5, 0x4, 0x3, 0x6, 0x9, 0x8 };
+static const uint8_t S_INVERSE[16] = { 0xc, 0xa, 0xe, 0xd, 0x1, 0xf, 0xb, 0x0, 0x7, 0x2, 0x5, 0x4, 0x3, 0x6, 0x9, 0x8 };
 #define LOOK(table, x) (uint8_t)((table)[(x) >> 4] << 4 | (table)[(x) & 15])
 #else
 #define ROW(h) h(0x7), h(0x4), h(0x9), h(0xc), h(0xb), h(0xa), h(0xd), h(0x8), \
     h(0xf), h(0xe), h(0x1), h(0x6), h(0x0), h(0x3), h(0x2), h(0x5)
-#define ROW_BACK(h) h(0xc), h(0xa), h(0xe), h(0xd), h(0x1), h(0xf), h(0xb), h(0x0), \
+#define INVERSE_ROW(h) h(0xc), h(0xa), h(0xe), h(0xd), h(0x1), h(0xf), h(0xb), h(0x0), \
     h(0x7), h(0x2), h(0x5), h(0x4), h(0x3), h(0x6), h(0x9), h(0x8)
 #define AFTER(x, y) (x) << 4 | (y)
 #define S_ROW(x) AFTER(x, 0x7), AFTER(x, 0x4), AFTER(x, 0x9), AFTER(x, 0xc), AFTER(x, 0xb), AFTER(x, 0xa), \
     AFTER(x, 0xd), AFTER(x, 0x8), AFTER(x, 0xf), AFTER(x, 0xe), AFTER(x, 0x1), AFTER(x, 0x6), AFTER(x, 0x0), \
     AFTER(x, 0x3), AFTER(x, 0x2), AFTER(x, 0x5)
-#define S_BACK_ROW(x) AFTER(x, 0xc), AFTER(x, 0xa), AFTER(x, 0xe), AFTER(x, 0xd), AFTER(x, 0x1), AFTER(x, 0xf), \
+#define S_INVERSE_ROW(x) AFTER(x, 0xc), AFTER(x, 0xa), AFTER(x, 0xe), AFTER(x, 0xd), AFTER(x, 0x1), AFTER(x, 0xf), \
     AFTER(x, 0xb), AFTER(x, 0x0), AFTER(x, 0x7), AFTER(x, 0x2), AFTER(x, 0x5), AFTER(x, 0x4), AFTER(x, 0x3), \
     AFTER(x, 0x6), AFTER(x, 0x9), AFTER(x, 0x8)
 static const uint8_t S[256] = { ROW(S_ROW) };
-static const uint8_t S_BACK[256] = { ROW_BACK(S_BACK_ROW) };
+static const uint8_t S_INVERSE[256] = { INVERSE_ROW(S_INVERSE_ROW) };
 #define LOOK(table, x) (table)[x]
 #endif
 
@@ -37,15 +37,18 @@ static const uint8_t PR128[8] = { 2, 7, 5, 0, 1, 6, 4, 3 };
 static const uint8_t PL256[16] = { 2, 7, 8, 13, 3, 6, 9, 12, 1, 4, 15, 10, 14, 11, 5, 0 };
 static const uint8_t PR256[16] = { 6, 11, 1, 12, 9, 4, 2, 15, 7, 0, 13, 10, 14, 3, 8, 5 };
 
-static const uint8_t PL128_BACK[8] = { 4, 0, 5, 1, 2, 7, 3, 6 };
-static const uint8_t PR128_BACK[8] = { 3, 4, 0, 7, 6, 2, 5, 1 };
-static const uint8_t PL256_BACK[16] = { 15, 8, 0, 4, 9, 14, 5, 1, 2, 6, 11, 13, 7, 3, 12, 10 };
-static const uint8_t PR256_BACK[16] = { 9, 2, 6, 13, 5, 15, 0, 8, 14, 4, 11, 1, 3, 10, 12, 7 };
+static const uint8_t PL128_INVERSE[8] = { 4, 0, 5, 1, 2, 7, 3, 6 };
+static const uint8_t PR128_INVERSE[8] = { 3, 4, 0, 7, 6, 2, 5, 1 };
+static const uint8_t PL256_INVERSE[16] = { 15, 8, 0, 4, 9, 14, 5, 1, 2, 6, 11, 13, 7, 3, 12, 10 };
+static const uint8_t PR256_INVERSE[16] = { 9, 2, 6, 13, 5, 15, 0, 8, 14, 4, 11, 1, 3, 10, 12, 7 };
 
-INLINE uint32_t turned(uint32_t x, unsigned b)
+INLINE uint32_t rotated(uint32_t x, unsigned b)
 {
     return x << b | x >> (32 - b);
 }
+
+#define PIECE uint32_t
+#include "mixing.h"
 
 INLINE uint32_t load(const uint8_t *p)
 {
@@ -60,46 +63,29 @@ INLINE void store(uint8_t *p, uint32_t x)
     p[3] = (uint8_t)x;
 }
 
-INLINE void mix(uint8_t *left, uint8_t *right)
+/* A piece of each half, mixed or unmixed. */
+INLINE void on_bytes(void (*mixing)(uint32_t *, uint32_t *), uint8_t *left, uint8_t *right)
 {
     uint32_t x0 = load(left), x1 = load(right);
-    x1 ^= x0;
-    x0 ^= turned(x1, 4);
-    x1 ^= turned(x0, 8);
-    x0 ^= turned(x1, 8);
-    x1 ^= turned(x0, 20);
-    x0 ^= x1;
+    mixing(&x0, &x1);
     store(left, x0);
     store(right, x1);
 }
 
-INLINE void unmix(uint8_t *left, uint8_t *right)
-{
-    uint32_t x0 = load(left), x1 = load(right);
-    x0 ^= x1;
-    x1 ^= turned(x0, 20);
-    x0 ^= turned(x1, 8);
-    x1 ^= turned(x0, 8);
-    x0 ^= turned(x1, 4);
-    x1 ^= x0;
-    store(left, x0);
-    store(right, x1);
-}
-
-INLINE void round_there(uint8_t *x, const uint8_t *key, size_t half, const uint8_t *PL, const uint8_t *PR)
+INLINE void encipher_round(uint8_t *x, const uint8_t *key, size_t half, const uint8_t *PL, const uint8_t *PR)
 {
     uint8_t y[MOST_BLOCK];
     for (size_t i = 0; i < 2 * half; i++)
         y[i] = LOOK(S, x[i] ^ key[i]);
     for (size_t i = 0; i < half; i += 4)
-        mix(y + i, y + half + i);
+        on_bytes(mix, y + i, y + half + i);
     for (size_t i = 0; i < half; i++) {
         x[i] = y[PL[i]];
         x[half + i] = y[half + PR[i]];
     }
 }
 
-INLINE void round_back(uint8_t *x, const uint8_t *key, size_t half, const uint8_t *PL, const uint8_t *PR)
+INLINE void decipher_round(uint8_t *x, const uint8_t *key, size_t half, const uint8_t *PL, const uint8_t *PR)
 {
     uint8_t y[MOST_BLOCK];
     for (size_t i = 0; i < half; i++) {
@@ -107,28 +93,28 @@ INLINE void round_back(uint8_t *x, const uint8_t *key, size_t half, const uint8_
         y[half + i] = x[half + PR[i]];
     }
     for (size_t i = 0; i < half; i += 4)
-        unmix(y + i, y + half + i);
+        on_bytes(unmix, y + i, y + half + i);
     for (size_t i = 0; i < 2 * half; i++)
-        x[i] = LOOK(S_BACK, y[i]) ^ key[i];
+        x[i] = LOOK(S_INVERSE, y[i]) ^ key[i];
 }
 
-INLINE void there(const struct ublock *e, uint8_t *to, const uint8_t *from, size_t half, const uint8_t *PL, const uint8_t *PR)
+INLINE void encipher_block(const struct ublock *e, uint8_t *to, const uint8_t *from, size_t half, const uint8_t *PL, const uint8_t *PR)
 {
     uint8_t x[MOST_BLOCK];
     memcpy(x, from, 2 * half);
     for (unsigned i = 0; i < e->rounds; i++)
-        round_there(x, e->keys[i], half, PL, PR);
+        encipher_round(x, e->keys[i], half, PL, PR);
     for (size_t i = 0; i < 2 * half; i++)
         to[i] = x[i] ^ e->keys[e->rounds][i];
 }
 
-INLINE void back(const struct ublock *e, uint8_t *to, const uint8_t *from, size_t half, const uint8_t *PL, const uint8_t *PR)
+INLINE void decipher_block(const struct ublock *e, uint8_t *to, const uint8_t *from, size_t half, const uint8_t *PL, const uint8_t *PR)
 {
     uint8_t x[MOST_BLOCK];
     for (size_t i = 0; i < 2 * half; i++)
         x[i] = from[i] ^ e->keys[e->rounds][i];
     for (unsigned i = e->rounds; i-- > 0;)
-        round_back(x, e->keys[i], half, PL, PR);
+        decipher_round(x, e->keys[i], half, PL, PR);
     memcpy(to, x, 2 * half);
 }
 
@@ -136,18 +122,18 @@ static void encipher(const struct ublock *e, uint8_t *to, const uint8_t *from, s
 {
     for (size_t i = 0; i < blocks; i++)
         if (e->block == 16)
-            there(e, to + 16 * i, from + 16 * i, 8, PL128, PR128);
+            encipher_block(e, to + 16 * i, from + 16 * i, 8, PL128, PR128);
         else
-            there(e, to + 32 * i, from + 32 * i, 16, PL256, PR256);
+            encipher_block(e, to + 32 * i, from + 32 * i, 16, PL256, PR256);
 }
 
 static void decipher(const struct ublock *e, uint8_t *to, const uint8_t *from, size_t blocks)
 {
     for (size_t i = 0; i < blocks; i++)
         if (e->block == 16)
-            back(e, to + 16 * i, from + 16 * i, 8, PL128_BACK, PR128_BACK);
+            decipher_block(e, to + 16 * i, from + 16 * i, 8, PL128_INVERSE, PR128_INVERSE);
         else
-            back(e, to + 32 * i, from + 32 * i, 16, PL256_BACK, PR256_BACK);
+            decipher_block(e, to + 32 * i, from + 32 * i, 16, PL256_INVERSE, PR256_INVERSE);
 }
 
 const struct method TABLE = { TABLE_NAME, false, fill_bytes, encipher, decipher };

@@ -75,7 +75,7 @@ size_t lanes(const struct method *method, size_t block)
     return method->packed ? 64 / block : 1;
 }
 
-int run_blocks(const struct method *method, unsigned variant, bool back, const uint8_t *key, size_t key_len,
+int run_blocks(const struct method *method, unsigned variant, bool decipher, const uint8_t *key, size_t key_len,
     uint8_t *run, size_t len)
 {
     struct ublock engine;
@@ -84,6 +84,6 @@ int run_blocks(const struct method *method, unsigned variant, bool back, const u
         return refused;
     if (len % engine.block != 0 || len / engine.block > lanes(method, engine.block))
         return RUN_LENGTH;
-    (back ? method->decipher : method->encipher)(&engine, run, run, len / engine.block);
+    (decipher ? method->decipher : method->encipher)(&engine, run, run, len / engine.block);
     return DONE;
 }

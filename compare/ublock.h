@@ -35,8 +35,8 @@ size_t lanes(const struct method *method, size_t block);
 /* Fills with round keys as bytes; refuses with NO_VARIANT, then KEY_LENGTH. */
 int fill_bytes(struct ublock *engine, unsigned variant, const uint8_t *key, size_t key_len);
 
-/* A run of an engine, there or back; refuses as an engine does. */
-int run_blocks(const struct method *method, unsigned variant, bool back, const uint8_t *key, size_t key_len,
+/* Enciphers or deciphers a run of an engine; refuses as an engine does. */
+int run_blocks(const struct method *method, unsigned variant, bool decipher, const uint8_t *key, size_t key_len,
     uint8_t *run, size_t len);
 
 /* A page: what fixes its bytes, and how it is worked on. */

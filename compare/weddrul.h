@@ -6,15 +6,17 @@
 #include <stddef.h>
 #include <stdint.h>
 
-/* One run of the engine, at most as many blocks as it has lanes. */
-uint32_t weddrul_run(uint32_t variant, bool packed, bool back, const uint8_t *key, size_t key_len, uint8_t *run, size_t run_len);
+/* Enciphers or deciphers one run of the engine, at most as many blocks as it has lanes. */
+uint32_t weddrul_run(uint32_t variant, bool packed, bool decipher, const uint8_t *key, size_t key_len, uint8_t *run, size_t run_len);
 
-/* A row of any number of blocks, in runs of as many as the engine has lanes. */
-uint32_t weddrul_row(uint32_t variant, bool packed, bool back, const uint8_t *key, size_t key_len, uint8_t *row, size_t row_len);
+/* The same of a row of any number of blocks, in runs of as many as the engine has lanes. */
+uint32_t weddrul_row(uint32_t variant, bool packed, bool decipher, const uint8_t *key, size_t key_len, uint8_t *row, size_t row_len);
 
+/* Seals readings into a page, in CBC or else in ECB, and zeroes the rest. */
 uint32_t weddrul_seal(uint32_t variant, bool packed, bool cbc, const uint8_t *key, size_t key_len,
     const uint8_t *start, size_t start_len, const uint8_t *readings, size_t readings_len, uint8_t *page, size_t page_len);
 
+/* Opens the n readings of a page into a place of as many bytes. */
 uint32_t weddrul_open(uint32_t variant, bool packed, bool cbc, const uint8_t *key, size_t key_len,
     const uint8_t *start, size_t start_len, const uint8_t *page, size_t page_len, size_t n, uint8_t *place, size_t place_len);
 
