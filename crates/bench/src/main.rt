@@ -1,5 +1,5 @@
-//! The bench: it answers each line of standard input on standard output. Ends with status 1 where memory, reading or writing
-//! fails, else with status 0.
+//! The bench program: it answers each line of standard input on standard output. Ends with status 1 where memory, reading or
+//! writing fails, else with status 0.
 
 #![tactic(auto)]
 

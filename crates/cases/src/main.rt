@@ -1,5 +1,5 @@
-//! Puts cases, read from standard input, through both engines, and prints what each call answers: as a C version of uBlock, written
-//! from the published design report, answered the same cases.
+//! Puts cases, read from standard input, through both engines, and prints what each call answers. What it has to print was answered
+//! by a C version of uBlock that is written from the published design report (`compare/write-cases`).
 
 #![tactic(auto)]
 

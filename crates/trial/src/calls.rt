@@ -1,4 +1,4 @@
-//! Lists of calls, some of which are refused.
+//! The lists of calls that are played on a log, some of which are refused, and what stands after them.
 
 use agreement::play::{Call, Turn};
 use std::alloc::Global;

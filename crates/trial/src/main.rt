@@ -1,5 +1,6 @@
-//! Runs the published worked examples of uBlock, read from standard input, through both engines and through layers over
-//! them, and prints what it did and how it compares. Ends with status 1 where anything is not as published.
+//! Runs all of the library on the published worked examples of uBlock, read from standard input: the key register, both engines,
+//! layers over them, pages, and logs on two machines. Prints what it did and how that compares, and ends with status 1 where
+//! anything is not as it should be.
 
 #![tactic(auto)]
 

@@ -1,4 +1,4 @@
-//! A pile of layers over an engine.
+//! Layers stacked over an engine.
 
 use cipher::engine::{Engine, EngineFault};
 use layers::cascade::Cascade;

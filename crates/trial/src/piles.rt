@@ -1,4 +1,4 @@
-//! Layers over the plain engine, against a published plaintext and its ciphertext.
+//! Tests of layers over the plain engine, against a published plaintext and its ciphertext.
 
 use cipher::engine::Engine;
 use halves::Narrow;
