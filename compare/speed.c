@@ -128,46 +128,68 @@ static void passes(struct random *r, unsigned long n)
         }
 }
 
-/* Which build of C was the fastest of a method. */
-static int best_of_c(const struct times *t, bool is_packed)
+/* The compilers that may have built the C version; the name of a method begins with its compiler's. */
+static const char *const COMPILERS[] = { "gcc", "clang" };
+enum { OF_COMPILERS = sizeof COMPILERS / sizeof *COMPILERS };
+
+/* Which build of a method by a compiler took the least time; -1 where there is none. */
+static int best_of(const struct times *t, bool is_packed, const char *compiler)
 {
     int best = -1;
-    for (int i = 0; i < OF_C; i++)
-        if (METHODS_OF_C[i]->packed == is_packed && (best < 0 || t->c[i] < t->c[best]))
+    for (int i = 0; i < OF_C; i++) {
+        const struct method *m = METHODS_OF_C[i];
+        if (m->packed == is_packed && strncmp(m->name, compiler, strlen(compiler)) == 0 && (best < 0 || t->c[i] < t->c[best]))
             best = i;
+    }
     return best;
+}
+
+static void print_heads(bool is_packed)
+{
+    printf("\n%s engine, beside the %s method in C\n%-8s %-9s %9s %7s", is_packed ? "Packed" : "Plain",
+        is_packed ? "packed" : "table", "", "", "Rattle", "");
+    for (int i = 0; i < OF_C; i++)
+        if (METHODS_OF_C[i]->packed == is_packed)
+            printf(" %13s", METHODS_OF_C[i]->name);
+    printf("  speed\n%-8s %-9s %9s %7s", "variant", "call", "ns/block", "MB/s");
+    for (int i = 0; i < OF_C; i++)
+        if (METHODS_OF_C[i]->packed == is_packed)
+            printf(" %13s", "ns/block");
+    for (int i = 0; i < OF_COMPILERS; i++)
+        if (best_of(&least[1][FILL], is_packed, COMPILERS[i]) >= 0)
+            printf(" to %-6s", COMPILERS[i]);
+    printf(" page to runs\n");
+}
+
+static void print_row(bool is_packed, unsigned variant, enum call call)
+{
+    const struct times *t = &least[variant][call];
+    const double blocks = call == FILL ? 1 : PAGE_BLOCKS, mine = t->rattle[is_packed];
+    const bool opens = call == OPEN_ECB || call == OPEN_CBC;
+    printf("%-8u %-9s %9.1f", variant, CALL_NAMES[call], mine / blocks);
+    if (call == FILL)
+        printf("%8s", "");
+    else
+        printf(" %7.0f", 1e3 * (double)block_len(variant) * blocks / mine);
+    for (int i = 0; i < OF_C; i++)
+        if (METHODS_OF_C[i]->packed == is_packed)
+            printf(" %13.1f", t->c[i] / blocks);
+    for (int i = 0; i < OF_COMPILERS; i++) {
+        const int best = best_of(t, is_packed, COMPILERS[i]);
+        if (best >= 0)
+            printf(" %9.2f", t->c[best] / mine);
+    }
+    if (call >= SEAL_ECB && call <= OPEN_CBC)
+        printf(" %9.2f", mine / least[variant][opens ? DECIPHER : ENCIPHER].rattle[is_packed]);
+    printf("\n");
 }
 
 static void print_engine(bool is_packed)
 {
-    printf("\n%s engine, beside the %s method in C\n", is_packed ? "Packed" : "Plain", is_packed ? "packed" : "table");
-    printf("%-8s %-9s %9s %7s", "", "", "Rattle", "");
-    for (int i = 0; i < OF_C; i++)
-        if (METHODS_OF_C[i]->packed == is_packed)
-            printf(" %13s", METHODS_OF_C[i]->name);
-    printf("   speed     beside\n%-8s %-9s %9s %7s", "variant", "call", "ns/block", "MB/s");
-    for (int i = 0; i < OF_C; i++)
-        if (METHODS_OF_C[i]->packed == is_packed)
-            printf(" %13s", "ns/block");
-    printf("   to best C  runs\n");
+    print_heads(is_packed);
     for (unsigned variant = 1; variant <= 3; variant++)
-        for (enum call call = 0; call < CALLS; call++) {
-            const struct times *t = &least[variant][call];
-            const double blocks = call == FILL ? 1 : PAGE_BLOCKS, mine = t->rattle[is_packed] / blocks;
-            const bool opens = call == OPEN_ECB || call == OPEN_CBC;
-            printf("%-8u %-9s %9.1f", variant, CALL_NAMES[call], mine);
-            if (call == FILL)
-                printf("%8s", "");
-            else
-                printf(" %7.0f", 1e3 * (double)block_len(variant) / mine);
-            for (int i = 0; i < OF_C; i++)
-                if (METHODS_OF_C[i]->packed == is_packed)
-                    printf(" %13.1f", t->c[i] / blocks);
-            printf(" %9.2f", t->c[best_of_c(t, is_packed)] / t->rattle[is_packed]);
-            if (call >= SEAL_ECB && call <= OPEN_CBC)
-                printf(" %9.2f", t->rattle[is_packed] / least[variant][opens ? DECIPHER : ENCIPHER].rattle[is_packed]);
-            printf("\n");
-        }
+        for (enum call call = 0; call < CALLS; call++)
+            print_row(is_packed, variant, call);
 }
 
 int main(int argc, char **argv)
