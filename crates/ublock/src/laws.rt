@@ -25,5 +25,5 @@ pub fn worked_examples() -> usize
     ensures count { result ≡ length examples }
     ensures hold { ExamplesHold }
 {
-    11
+    13
 }
