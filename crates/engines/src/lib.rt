@@ -7,6 +7,8 @@ ghost use Rattle.ublock.specs.Cipher.{block_length};
 ghost use Rattle.cipher.specs.Keys.{Filled, key_answer};
 ghost use Rattle.cipher.specs.Engines.{OnePermutation};
 
+pub mod laws;
+
 use cipher::engine::{Engine, KeyFault};
 use packed::Packed;
 use packed::arrangement::Arrangement;
