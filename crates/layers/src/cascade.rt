@@ -1,6 +1,6 @@
 //! Two engines of one type, one after the other.
 
-ghost use Rattle.std.specs.Prelude.{◌≡◌};
+ghost use Rattle.std.specs.Prelude.{◌≡◌, ℕ, List};
 ghost use Rattle.layers.specs.Lawful.{cascade_permutes};
 
 use cipher::engine::{Engine, EngineFault};
@@ -12,11 +12,11 @@ pub struct Cascade<E> {
     inner: E,
 }
 
-impl<E> Cascade<E> {
+impl<E: Engine> Cascade<E> {
     /// The engine that enciphers by `inner` and then by `outer`.
     pub fn new(outer: E, inner: E) -> Cascade<E>
-        ensures outer { result.outer ≡ outer }
-        ensures inner { result.inner ≡ inner }
+        ensures enciphers { (x : List ℕ) → ⟦<Cascade<E> as Engine>⟧.enc result x ≡ E.enc outer (E.enc inner x) }
+        ensures deciphers { (y : List ℕ) → ⟦<Cascade<E> as Engine>⟧.dec result y ≡ E.dec inner (E.dec outer y) }
     {
         Cascade { outer, inner }
     }

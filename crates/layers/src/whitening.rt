@@ -1,6 +1,7 @@
 //! Two fixed values, added to each block before and after the engine below.
 
-ghost use Rattle.std.specs.Prelude.{◌≡◌, ◌<◌, ◌≤◌, if◌then◌else◌, is_ok};
+ghost use Rattle.std.specs.Prelude.{◌≡◌, ℕ, ◌<◌, ◌≤◌, List, take, if◌then◌else◌, is_ok};
+ghost use Rattle.ublock.specs.Cipher.{xor};
 ghost use Rattle.layers.specs.Layers.{whitened, added_to_blocks};
 ghost use Rattle.layers.specs.Lawful.{whitened_permutes};
 
@@ -15,13 +16,12 @@ pub struct Whitening<E> {
     last: FixedValue,
 }
 
-impl<E> Whitening<E> {
+impl<E: Engine> Whitening<E> {
     /// The engine below with `first` added to each block before it and `last` after it: of each value as many bytes as a
     /// block has, the first ones.
     pub fn new(engine: E, first: [u8; 32], last: [u8; 32]) -> Whitening<E>
-        ensures engine { result.engine ≡ engine }
-        ensures first { result.first.bytes ≡ first }
-        ensures last { result.last.bytes ≡ last }
+        ensures enciphers { (x : List ℕ) → ⟦<Whitening<E> as Engine>⟧.enc result x ≡ xor (E.enc engine (xor x (take E.block_length first))) (take E.block_length last) }
+        ensures deciphers { (y : List ℕ) → ⟦<Whitening<E> as Engine>⟧.dec result y ≡ xor (E.dec engine (xor y (take E.block_length last))) (take E.block_length first) }
     {
         Whitening {
             engine,
