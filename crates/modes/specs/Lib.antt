@@ -1,3 +1,4 @@
+pub mod Examples
 pub mod Modes
 pub mod Lawful
 pub mod Sealing

@@ -2,6 +2,7 @@
 
 ghost use Rattle.std.specs.Prelude.{◌≡◌, ℕ, true, ◌+◌, ◌*◌, ◌/◌, ◌^◌, ◌<◌, ◌≤◌, ◌++◌, length, take, drop, IfSome, is_some, nat_le, ◌==◌};
 ghost use Rattle.ublock.specs.Laws.{Block};
+ghost use Rattle.modes.specs.Examples.{SealedAsWorked};
 ghost use Rattle.modes.specs.Sealing.{blocks, joined, opened, previous, scheme, scheme_of, sealed, whole_blocks};
 
 use crate::engine_runs::{decipher_blocks, encipher_blocks};
@@ -55,10 +56,11 @@ impl<E: Engine + Copy, M: Mode> Sealer<E, M> {
         self.engine.block_len()
     }
 
-    /// The position at index 0, after the start block.
+    /// The position at index 0, after the start block. From there a row of readings is sealed as in the worked example.
     pub fn start(&self) -> Position
         ensures index { result.index ≡ 0 }
         ensures before { result.before ≡ self.now.start }
+        ensures as_worked { SealedAsWorked }
     {
         Position {
             index: 0,
