@@ -5,10 +5,10 @@ use Rattle.std.proofs.lemmas.Bool.{cases_eq, cases_lt}
 use Rattle.std.proofs.lemmas.Bool.Decides.{nat_tests}
 use Rattle.std.proofs.lemmas.Option.{none-some, cond_some}
 use borrow.Author.Tests.{ltb-true}
-use Rattle.std.proofs.lemmas.List.{take_all}
+use Rattle.std.proofs.lemmas.List.{length-take-le, take_all}
 use Rattle.std.proofs.lemmas.List.Splits.{length-slice_split, slice_split_first}
 use Rattle.protocol.specs.Fields.{fields, is_tab, alone, letter_of, number_of, bytes_of, ◌>>=◌}
-use Rattle.protocol.specs.Lines.{new_of, new_from, amend_of, of_letter, of_fields, append_of, cut_of, read_of, show_of, number_alone, command_of}
+use Rattle.protocol.specs.Lines.{new_of, new_from, amend_of, of_letter, of_fields, append_of, cut_of, read_of, show_of, number_alone, command_of, FirstBytesSuffice}
 use Rattle.protocol.specs.declared.command.LogCommand.TheVariants.{Amend}
 
 -- ---- letters
@@ -162,3 +162,10 @@ line_by_letter [] h k t e = absurd (omega arith)
 line_by_letter (c ∷ cs) h k t e = short_line (c ∷ cs) k ∙ rw (past 1 (c ∷ cs), past 1 cs) (line_with_tab c cs (rw past at t) (rw past at e))
 
 pub ruleset lines = (long_line, empty_line, letter_line, word_line, line_by_letter)
+
+pub first_bytes_suffice : FirstBytesSuffice
+first_bytes_suffice line =
+    elim (cases_lt 200 (length line)) [
+      | inl h ↦ long_line (take 201 line) (omega (arith, length-take-le 201 line (omega arith))) ∙ sym (long_line line h)
+      | inr h ↦ ap command_of (take_all 201 line (omega arith))
+    ]

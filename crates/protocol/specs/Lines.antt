@@ -1,5 +1,5 @@
 -- What a line says: None where it has the wrong shape.
-use Rattle.std.specs.Prelude.{ℕ, List, [], ◌∷◌, length, Option, Some, None, option_map, nat_lt, ◌==◌, if◌then◌else◌}
+use Rattle.std.specs.Prelude.{◌≡◌, ℕ, List, [], ◌∷◌, length, take, Option, Some, None, option_map, nat_lt, ◌==◌, if◌then◌else◌}
 use Rattle.std.specs.Str.{byte}
 use Rattle.protocol.specs.Fields.{fields, alone, number_of, bytes_of, engine_of, mode_of, ◌>>=◌}
 use Rattle.protocol.specs.declared.command.Command.{Command}
@@ -73,3 +73,7 @@ of_fields _ = None
 -- at most 200 bytes
 unfoldable pub command_of : List ℕ → Option Command
 command_of line = if nat_lt 200 (length line) then None else of_fields (fields line)
+
+-- the first 201 bytes of a line say what the whole line says, so that a reader need keep no more of it
+abbrev pub FirstBytesSuffice : Type 0
+FirstBytesSuffice = (line : List ℕ) → command_of (take 201 line) ≡ command_of line

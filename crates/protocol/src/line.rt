@@ -2,16 +2,17 @@
 
 ghost use Rattle.std.specs.Prelude.{◌≡◌, ◌≤◌, length};
 ghost use Rattle.protocol.specs.Fields.{fields};
-ghost use Rattle.protocol.specs.Lines.{command_of, new_of, new_from, append_of, amend_of, cut_of, read_of, show_of, number_alone};
+ghost use Rattle.protocol.specs.Lines.{command_of, new_of, new_from, append_of, amend_of, cut_of, read_of, show_of, number_alone, FirstBytesSuffice};
 
 use crate::byte_field::byte_field;
 use crate::command::{Command, LogCommand, NewLog};
 use crate::fields::{engine, mode, number, only, split};
 
 /// What the line says, if it has the right shape.
-#[tactic(auto, using(crate::proofs::Texts::lines))]
+#[tactic(auto, using(crate::proofs::Texts::lines, crate::proofs::Texts::first_bytes_suffice))]
 pub fn parse(line: &[u8]) -> Option<Command>
-    ensures { result ≡ command_of line.now }
+    ensures command { result ≡ command_of line.now }
+    ensures first_bytes_suffice { FirstBytesSuffice }
 {
     if line.len() > 200 {
         return None;
