@@ -1,6 +1,6 @@
 //! The numbers of refusals.
 
-ghost use Rattle.std.specs.Prelude.{◌≡◌, Err};
+ghost use Rattle.std.specs.Prelude.{◌≡◌, ℕ, Err};
 ghost use Rattle.cipher.specs.Engines.{engine_answer};
 ghost use Rattle.cipher.specs.Keys.{key_answer};
 ghost use Rattle.beatlog.specs.Faults.{log_answer};
@@ -14,25 +14,15 @@ pub(crate) fn of_log(answer: Result<usize, LogFault>) -> u32
 {
     match answer {
         Ok(_) => 0,
-        Err(LogFault::Key(fault)) => of_key(fault),
-        Err(LogFault::StartLength) => 3,
-        Err(LogFault::BlockLength) => 4,
-        Err(LogFault::ReadingLength) => 5,
-        Err(LogFault::PageLength) => 6,
-        Err(LogFault::Full) => 7,
-        Err(LogFault::OutOfRange) => 8,
-        Err(LogFault::WorkLength) => 9,
+        Err(fault) => u32::from(fault.number()),
     }
 }
 
 /// The number of a refusal to fill.
 pub(crate) fn of_key(fault: KeyFault) -> u32
-    ensures number { result ≡ (key_answer {T = Unit} (Err fault)).number }
+    ensures number { result ≡ (key_answer {T = ℕ} (Err fault)).number }
 {
-    match fault {
-        KeyFault::NoVariant => 1,
-        KeyFault::KeyLength => 2,
-    }
+    u32::from(LogFault::Key(fault).number())
 }
 
 /// The number of a run: 0 where the engine did its work.
