@@ -1,13 +1,15 @@
 -- Bytes served: what a line more makes of them.
-use Rattle.std.proofs.Common.{◌≡◌, ℕ, ◌+◌, ◌-◌, Bool, true, false, cond, List, [], ◌∷◌, ◌++◌, length, take, drop, Option, Some, None, IfSome, Result, Ok, Err, OnOk, refl, sym, subst, ap, ◌∙◌, append_assoc, arith}
-use Rattle.std.specs.Prelude.{option_map}
+use Rattle.std.proofs.Common.{◌≡◌, ℕ, ◌+◌, ◌-◌, ◌≤◌, Bool, true, false, cond, List, [], ◌∷◌, ◌++◌, length, map, take, drop, min, Option, Some, None, IfSome, Result, Ok, Err, OnOk, OnErr, if◌then◌else◌, refl, sym, subst, ap, ◌∙◌, append_assoc, arith}
+use Rattle.std.specs.Prelude.{option_map, nat_le}
 use Rattle.std.specs.List.{concat}
 use Rattle.std.specs.Io.KnownBytes.{Appends, Keeps, Consumes, IsAtEnd}
-use Rattle.std.proofs.lemmas.List.{append-nil, length-drop, length-take, take-append-drop, take_all}
+use Rattle.std.proofs.Math.Seq.{take-add, take-append-add, take-append_seam, take-length}
+use Rattle.std.proofs.lemmas.List.{append-nil, length-drop, length-take, take-append-drop, take-append-le, take_all, take_min, take_rest}
 use Rattle.std.proofs.lemmas.List.Folds.{concat-append}
 use Rattle.lines.specs.Lines.{Reading, HasRead, after, line_end, lines_ahead, lines_of}
-use Rattle.session.specs.Session.{SessionState, answer, answers, beginning, state_after}
-use Rattle.answering.specs.Output.{Served, ServedAll, output_of, text_of}
+use Rattle.protocol.proofs.Texts.{first_bytes_suffice}
+use Rattle.session.specs.Session.{Answered, SessionState, answer, answered, answers, beginning, done, state_after}
+use Rattle.answering.specs.Output.{AppendsFront, FrontWritten, Served, ServedAll, output_of, text_of, whole_lines}
 
 -- ---- known bytes
 appends_more : (a b c : Option (List ℕ)) (xs ys : List ℕ) → Appends a b xs → Appends b c ys → Appends a c (xs ++ ys)
@@ -40,8 +42,35 @@ consumes_more (Some s) None c xs ys h k = absurd h
 consumes_more (Some s) (Some t) None xs ys h k = absurd k
 consumes_more (Some s) (Some t) (Some u) xs ys h k = h ∙ ap (λ l. xs ++ l) k ∙ sym (append_assoc xs ys u)
 
+-- ---- a front part of a text
+front_of : (a b : Option (List ℕ)) (xs ys : List ℕ) → Appends a b xs → AppendsFront a b (xs ++ ys)
+front_of a b xs ys h = (length xs, subst (Appends a b) (sym (take-append_seam xs ys)) h)
+
+front_whole : (a b : Option (List ℕ)) (xs : List ℕ) → Appends a b xs → AppendsFront a b xs
+front_whole a b xs h = (length xs, subst (Appends a b) (sym (take-length xs)) h)
+
+pub front_at : (a b : Option (List ℕ)) (text : List ℕ) (i : ℕ) → Appends a b (take i text) → AppendsFront a b text
+front_at a b text i h = (i, h)
+
+front_after : (a b c : Option (List ℕ)) (xs ys zs : List ℕ) → Appends a b xs → AppendsFront b c ys → AppendsFront a c (xs ++ (ys ++ zs))
+front_after a b c xs ys zs h k =
+    let n = min k.0 (length ys) in
+    let few : n ≤ length ys = omega arith in
+    let is : take (length xs + n) (xs ++ (ys ++ zs)) ≡ xs ++ take k.0 ys =
+    take-append-add xs (ys ++ zs) n ∙ ap (λ t. xs ++ t) (take-append-le n ys zs few ∙ take_min k.0 ys) in
+    (length xs + n, subst (Appends a c) (sym is) (appends_more a b c xs (take k.0 ys) h k.1))
+
+-- n bytes more of a text
+pub more_written : (a b c : Option (List ℕ)) (text : List ℕ) (i n : ℕ) → Appends a b (take i text) → Appends b c (take n (take (length text - i) (drop i text))) → Appends a c (take (i + n) text)
+more_written a b c text i n h k =
+    subst (Appends a c) (sym (take-add i n text))
+    (appends_more a b c (take i text) (take n (drop i text)) h (subst (λ t. Appends b c (take n t)) (take_rest text i) k))
+
+pub all_text : (a b : Option (List ℕ)) (text : List ℕ) (i : ℕ) → length text ≤ i → Appends a b (take i text) → Appends a b text
+all_text a b text i h k = subst (Appends a b) (take_all i text h) k
+
 -- ---- a line more
-appends_nothing : (w : Option (List ℕ)) → Appends w w []
+pub appends_nothing : (w : Option (List ℕ)) → Appends w w []
 appends_nothing None = tt
 appends_nothing (Some s) = sym (append-nil s)
 
@@ -64,6 +93,20 @@ text_more ls line =
 text_served : (r : Reading) (s : SessionState) (first w : Option (List ℕ)) (fed line : List ℕ) (so : Served r s first w fed)
     → text_of so.given ++ (answer s line).text ≡ text_of (so.given ++ line ∷ [])
 text_served r s first w fed line so = ap (λ t. text_of so.given ++ (answer t line).text) so.taken ∙ sym (text_more so.given line)
+
+-- ---- a line is answered as its first bytes are
+answer_first : (s : SessionState) (line : List ℕ) → answer s (take 201 line) ≡ answer s line
+answer_first s line =
+    ap (λ c. if nat_le 999999 s.lines then (record { text = []; state = s }) else answered (s.lines + 1) (done s.log s.page c)) (first_bytes_suffice line)
+
+answers_first : (s : SessionState) (ls : List (List ℕ)) → answers s (map (take 201) ls) ≡ answers s ls
+answers_first s [] = refl
+answers_first s (l ∷ ls) =
+    ap (λ (a : Answered). a.text ∷ answers a.state (map (take 201) ls)) (answer_first s l)
+    ∙ ap (λ ts. (answer s l).text ∷ ts) (answers_first (answer s l).state ls)
+
+output_is : (input : List ℕ) → text_of (lines_of input) ≡ output_of input
+output_is input = ap concat (answers_first beginning (whole_lines input))
 
 pub line_served : (r now : Reading) (s next : SessionState) (first w more : Option (List ℕ)) (fed part line : List ℕ)
     → Served r s first w fed
@@ -128,7 +171,7 @@ pub last_served : (r : Reading) (s : SessionState) (first w more : Option (List 
     → left ≡ true → Appends w more (answer s line).text → Appends first more (output_of fed)
 last_served r s first w more fed line left so reads some wrote =
     let whole : so.given ++ line ∷ [] ≡ lines_of fed = ap (λ b. so.given ++ cond b (line ∷ []) []) (sym some) ∙ reads so.given so.has_read in
-    subst (Appends first more) (text_served r s first w fed line so ∙ ap text_of whole) (appends_more first w more (text_of so.given) (answer s line).text so.answered wrote)
+    subst (Appends first more) (text_served r s first w fed line so ∙ ap text_of whole ∙ output_is fed) (appends_more first w more (text_of so.given) (answer s line).text so.answered wrote)
 
 pub none_left : (r : Reading) (s : SessionState) (first w : Option (List ℕ)) (fed line : List ℕ) (left : Bool)
     → Served r s first w fed
@@ -136,15 +179,88 @@ pub none_left : (r : Reading) (s : SessionState) (first w : Option (List ℕ)) (
     → left ≡ false → Appends first w (output_of fed)
 none_left r s first w fed line left so reads none =
     let whole : so.given ≡ lines_of fed = sym (append-nil so.given) ∙ ap (λ b. so.given ++ cond b (line ∷ []) []) (sym none) ∙ reads so.given so.has_read in
-    rw (← whole) so.answered
+    subst (Appends first w) (ap text_of whole ∙ output_is fed) so.answered
+
+output_all : (fed bytes : List ℕ) → lines_of fed ≡ lines_of bytes → output_of fed ≡ output_of bytes
+output_all fed bytes e = sym (output_is fed) ∙ ap text_of e ∙ output_is bytes
 
 pub all_written : (r : Reading) (s : SessionState) (first w more flushed input : Option (List ℕ))
     → ServedAll r s first w input → ((fed : List ℕ) → Served r s first w fed → Appends first more (output_of fed)) → Keeps more flushed
     → IfSome input (λ bytes. Appends first flushed (output_of bytes))
 all_written r s first w more flushed None so last kept = tt
 all_written r s first w more flushed (Some bytes) so last kept =
-    rw (← so.all) (appends_kept first more flushed (output_of so.fed) (last so.fed so.served) kept)
+    subst (Appends first flushed) (output_all so.fed bytes so.all) (appends_kept first more flushed (output_of so.fed) (last so.fed so.served) kept)
 
 pub on_ok : {T E P : Type 0} (r : Result T E) → P → OnOk r P
 on_ok (Ok x) p = p
 on_ok (Err e) p = tt
+
+pub on_err : {T E P : Type 0} (r : Result T E) → P → OnErr r P
+on_err (Ok x) p = tt
+on_err (Err e) p = p
+
+-- ---- where reading or writing fails
+answers_append : (s : SessionState) (ls more : List (List ℕ)) → answers s (ls ++ more) ≡ answers s ls ++ answers (state_after s ls) more
+answers_append s [] more = refl
+answers_append s (l ∷ ls) more = ap (λ ts. (answer s l).text ∷ ts) (answers_append (answer s l).state ls more)
+
+text_append : (ls more : List (List ℕ)) → text_of (ls ++ more) ≡ text_of ls ++ concat (answers (state_after beginning ls) more)
+text_append ls more = ap concat (answers_append beginning ls more) ∙ concat-append (answers beginning ls) (answers (state_after beginning ls) more)
+
+pub served_front : (r : Reading) (s : SessionState) (first w : Option (List ℕ)) (fed : List ℕ) → Served r s first w fed → FrontWritten first w fed
+served_front r s first w fed so xs =
+    let ahead = lines_ahead r xs in
+    subst (AppendsFront first w) (sym (text_append so.given ahead) ∙ ap text_of (so.has_read xs) ∙ output_is (fed ++ xs))
+    (front_of first w (text_of so.given) (concat (answers (state_after beginning so.given) ahead)) so.answered)
+
+pub line_front : (r now : Reading) (s : SessionState) (first w more : Option (List ℕ)) (fed part line : List ℕ)
+    → Served r s first w fed
+    → ((given : List (List ℕ)) → HasRead r fed given → HasRead now (fed ++ part) (given ++ line ∷ []))
+    → AppendsFront w more (answer s line).text
+    → FrontWritten first more (fed ++ part)
+line_front r now s first w more fed part line so reads wrote xs =
+    let ls = so.given ++ line ∷ [] in
+    let ahead = lines_ahead now xs in
+    let rest = concat (answers (state_after beginning ls) ahead) in
+    subst (AppendsFront first more)
+    (sym (append_assoc (text_of so.given) (answer s line).text rest) ∙ ap (λ t. t ++ rest) (text_served r s first w fed line so)
+    ∙ sym (text_append ls ahead) ∙ ap text_of (reads so.given so.has_read xs) ∙ output_is ((fed ++ part) ++ xs))
+    (front_after first w more (text_of so.given) (answer s line).text rest so.answered wrote)
+
+-- after n bytes more of a chunk, so also after all of it
+pub chunk_front : (first w : Option (List ℕ)) (fed part rest chunk : List ℕ) (n : ℕ) → part ++ rest ≡ chunk → FrontWritten first w ((fed ++ part) ++ take n rest) → FrontWritten first w (fed ++ chunk)
+chunk_front first w fed part rest chunk n is front xs =
+    let more = take (length rest - n) (drop n rest) in
+    let whole : ((fed ++ part) ++ take n rest) ++ (more ++ xs) ≡ (fed ++ chunk) ++ xs =
+    sym (append_assoc ((fed ++ part) ++ take n rest) more xs)
+    ∙ ap (λ t. t ++ xs) (ap (λ t. t ++ more) (append_assoc fed part (take n rest)) ∙ append_assoc fed (part ++ take n rest) more ∙ ap (λ t. fed ++ t) (chunk_cut part rest chunk n is)) in
+    subst (λ t. AppendsFront first w (output_of t)) whole (front (more ++ xs))
+
+pub input_front : (first w input rest : Option (List ℕ)) (fed : List ℕ) → Consumes input rest fed → FrontWritten first w fed → IfSome input (λ bytes. AppendsFront first w (output_of bytes))
+input_front first w None rest fed read front = tt
+input_front first w (Some xs) None fed read front = absurd read
+input_front first w (Some xs) (Some ys) fed read front = subst (λ t. AppendsFront first w (output_of t)) (sym read) (front ys)
+
+pub last_front : (r : Reading) (s : SessionState) (first w more : Option (List ℕ)) (fed line : List ℕ) (left : Bool)
+    → Served r s first w fed
+    → ((given : List (List ℕ)) → HasRead r fed given → given ++ cond left (line ∷ []) [] ≡ lines_of fed)
+    → left ≡ true → AppendsFront w more (answer s line).text → AppendsFront first more (output_of fed)
+last_front r s first w more fed line left so reads some wrote =
+    let whole : so.given ++ line ∷ [] ≡ lines_of fed = ap (λ b. so.given ++ cond b (line ∷ []) []) (sym some) ∙ reads so.given so.has_read in
+    subst (AppendsFront first more)
+    (ap (λ t. text_of so.given ++ t) (append-nil (answer s line).text) ∙ text_served r s first w fed line so ∙ ap text_of whole ∙ output_is fed)
+    (front_after first w more (text_of so.given) (answer s line).text [] so.answered wrote)
+
+pub all_front : (r : Reading) (s : SessionState) (first w more input : Option (List ℕ))
+    → ServedAll r s first w input → ((fed : List ℕ) → Served r s first w fed → AppendsFront first more (output_of fed))
+    → IfSome input (λ bytes. AppendsFront first more (output_of bytes))
+all_front r s first w more None so last = tt
+all_front r s first w more (Some bytes) so last = subst (AppendsFront first more) (output_all so.fed bytes so.all) (last so.fed so.served)
+
+pub whole_front : (first w input : Option (List ℕ)) → IfSome input (λ bytes. Appends first w (output_of bytes)) → IfSome input (λ bytes. AppendsFront first w (output_of bytes))
+whole_front first w None h = tt
+whole_front first w (Some bytes) h = front_whole first w (output_of bytes) h
+
+pub nothing_front : (w input : Option (List ℕ)) → IfSome input (λ bytes. AppendsFront w w (output_of bytes))
+nothing_front w None = tt
+nothing_front w (Some bytes) = (0, appends_nothing w)

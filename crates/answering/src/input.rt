@@ -1,10 +1,11 @@
 //! An input, from its first chunk to its last line.
 
-ghost use Rattle.std.specs.Prelude.{◌≡◌, ◌-◌, ◌<◌, ◌≤◌, ◌++◌, ℕ, List, [], length, take, Option, OnOk, IfOk, IfSome};
+ghost use Rattle.std.specs.Prelude.{◌≡◌, ◌-◌, ◌<◌, ◌≤◌, ◌++◌, ℕ, List, [], length, take, Option, OnOk, OnErr, IfOk, IfSome};
 ghost use Rattle.std.specs.Io.KnownBytes.{Appends, Consumes, IsAtEnd};
 ghost use Rattle.session.specs.Session.{answer};
-ghost use Rattle.answering.specs.Output.{output_of, Served, ServedAll};
+ghost use Rattle.answering.specs.Output.{output_of, AppendsFront, FrontWritten, Served, ServedAll};
 
+use crate::writing::write_whole;
 use lines::splitter::Splitter;
 use session::session::{Session, Shown};
 use std::alloc::Global;
@@ -14,10 +15,13 @@ use std::io::{ErrorKind, Read, Write};
 // How many bytes are read at once.
 const CHUNK: usize = 65_536;
 
-/// Answers each line of an input, and writes nothing else. The answers so far are flushed before more is read.
+/// Answers each line of an input, and writes nothing else. The answers so far are flushed before more is read. Where memory,
+/// reading or writing fails, a front part of the answers is written.
 pub fn run<R: Read, W: Write>(alloc: Global, reader: &mut R, writer: &mut W) -> io::Result<()>
-    ensures { OnOk result (IfSome (R.remaining reader.old) (λ input.
+    ensures answered { OnOk result (IfSome (R.remaining reader.old) (λ input.
         Appends (W.contents writer.old) (W.contents writer.new) (output_of input))) }
+    ensures cut_off { OnErr result (IfSome (R.remaining reader.old) (λ input.
+        AppendsFront (W.contents writer.old) (W.contents writer.new) (output_of input))) }
 {
     let mut buffer = vec![in alloc; 0; CHUNK]?;
     let mut session = Session::new();
@@ -36,8 +40,10 @@ fn answer_chunks<R: Read, W: Write>(
     writer: &mut W,
 ) -> io::Result<()>
     requires { 0 < length buffer.old }
-    ensures { Served splitter.old (⟦<Session as Shown>⟧.shown session.old) (W.contents writer.old) (W.contents writer.old) []
+    ensures served { Served splitter.old (⟦<Session as Shown>⟧.shown session.old) (W.contents writer.old) (W.contents writer.old) []
         → OnOk result (ServedAll splitter.new (⟦<Session as Shown>⟧.shown session.new) (W.contents writer.old) (W.contents writer.new) (R.remaining reader.old)) }
+    ensures cut_off { Served splitter.old (⟦<Session as Shown>⟧.shown session.old) (W.contents writer.old) (W.contents writer.old) []
+        → OnErr result (IfSome (R.remaining reader.old) (λ input. AppendsFront (W.contents writer.old) (W.contents writer.new) (output_of input))) }
 {
     while !splitter.is_full() {
         writer.flush()?;
@@ -76,6 +82,9 @@ fn answer_lines<W: Write>(
     ensures served { (first : Option (List ℕ)) (fed : List ℕ)
         → Served splitter.old (⟦<Session as Shown>⟧.shown session.old) first (W.contents writer.old) fed
         → OnOk result (Served splitter.new (⟦<Session as Shown>⟧.shown session.new) first (W.contents writer.new) (fed ++ chunk.now)) }
+    ensures cut_off { (first : Option (List ℕ)) (fed : List ℕ)
+        → Served splitter.old (⟦<Session as Shown>⟧.shown session.old) first (W.contents writer.old) fed
+        → OnErr result (FrontWritten first (W.contents writer.new) (fed ++ chunk.now)) }
 {
     let mut rest = chunk;
     while let Some(n) = splitter.next_line(rest) {
@@ -91,9 +100,12 @@ fn answer_last<W: Write>(
     session: &mut Session,
     writer: &mut W,
 ) -> io::Result<()>
-    ensures { (first : Option (List ℕ)) (fed : List ℕ)
+    ensures answered { (first : Option (List ℕ)) (fed : List ℕ)
         → Served splitter.old (⟦<Session as Shown>⟧.shown session.old) first (W.contents writer.old) fed
         → OnOk result (Appends first (W.contents writer.new) (output_of fed)) }
+    ensures cut_off { (first : Option (List ℕ)) (fed : List ℕ)
+        → Served splitter.old (⟦<Session as Shown>⟧.shown session.old) first (W.contents writer.old) fed
+        → OnErr result (AppendsFront first (W.contents writer.new) (output_of fed)) }
 {
     if splitter.finish() {
         answer_line(splitter, session, writer)?;
@@ -110,6 +122,8 @@ fn answer_line<W: Write>(
     ensures state { ⟦<Session as Shown>⟧.shown session.new ≡ (answer (⟦<Session as Shown>⟧.shown session.old) splitter.now.line).state }
     ensures text { OnOk result (Appends (W.contents writer.old) (W.contents writer.new)
         (answer (⟦<Session as Shown>⟧.shown session.old) splitter.now.line).text) }
+    ensures cut_off { OnErr result (AppendsFront (W.contents writer.old) (W.contents writer.new)
+        (answer (⟦<Session as Shown>⟧.shown session.old) splitter.now.line).text) }
 {
-    writer.write_all(session.answer(splitter.line()).as_slice())
+    write_whole(writer, session.answer(splitter.line()).as_slice())
 }
