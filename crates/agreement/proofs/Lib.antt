@@ -10,3 +10,4 @@ pub mod Counts
 pub mod Agreed
 pub mod Runs
 mod Crossings
+mod Played

@@ -32,6 +32,10 @@ bare (Amend index reading work) = calls.amend index reading.now []
 bare (Cut m) = calls.cut m
 bare (Read index place) = calls.read index []
 
+-- nothing else is in a call
+abbrev pub CallIsBareAndBuffer : Type 0
+CallIsBareAndBuffer = (c d : Call) → bare c ≡ bare d → buffer c ≡ buffer d → call_of c ≡ call_of d
+
 abbrev pub outcome_of : Turn → Outcome
 outcome_of turn = record { lent = buffer turn.call; answer = log_answer turn.answer }
 

@@ -4,7 +4,7 @@ ghost use Rattle.std.specs.Prelude.{◌≡◌, map, Ok};
 ghost use Rattle.modes.specs.Sealing.{scheme_of};
 ghost use Rattle.beatlog.specs.Calls.{Link, state_of};
 ghost use Rattle.agreement.specs.Agreements.{Run};
-ghost use Rattle.agreement.specs.Played.{bare, call_of, outcome_of};
+ghost use Rattle.agreement.specs.Played.{CallIsBareAndBuffer, bare, call_of, outcome_of};
 
 use beatlog::fault::LogFault;
 use beatlog::log::Log;
@@ -48,10 +48,12 @@ impl<'a> Turn<'a> {
 }
 
 /// Makes the calls on a log one after the other. Each keeps its buffer as the call leaves it, and gets its answer.
+#[tactic(auto, using(crate::proofs::Played::call_is_bare_and_buffer))]
 pub fn play<E: Engine + Copy, M: Mode>(log: &mut Log<E, M>, page: &mut [u8], turns: &mut [Turn])
     ensures sealer_stays { log.new.sealer ≡ log.old.sealer }
     ensures capacity_stays { log.new.capacity ≡ log.old.capacity }
     ensures arguments_stay { map (λ t. bare t.call) turns.new ≡ map (λ t. bare t.call) turns.old }
+    ensures call_is_bare_and_buffer { CallIsBareAndBuffer }
     ensures run { Run (scheme_of E.Engine M.Mode log.old.sealer) log.old.capacity (state_of log.old page.old) (map (λ t. call_of t.call) turns.old) (map outcome_of turns.new) (state_of log.new page.new) }
 {
     for turn in turns.iter_mut() {
