@@ -23,7 +23,8 @@ pub struct Machine<E, M> {
     pub mode: M,
 }
 
-/// What recorder and bench found.
+/// What recorder and bench found. It is the same whatever key and mode the bench has: what a bench opens it seals to the same page.
+/// Other readings in the rooms, or a bench page of another length, show only there.
 #[derive(Drop)]
 pub struct Report {
     /// how many readings stand

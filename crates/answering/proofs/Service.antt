@@ -81,13 +81,13 @@ state_more : (s : SessionState) (ls : List (List ℕ)) (line : List ℕ) → sta
 state_more s [] line = refl
 state_more s (l ∷ ls) line = state_more (answer s l).state ls line
 
-answers_more : (s : SessionState) (ls : List (List ℕ)) (line : List ℕ) → answers s (ls ++ line ∷ []) ≡ answers s ls ++ (answer (state_after s ls) line).text ∷ []
-answers_more s [] line = refl
-answers_more s (l ∷ ls) line = ap (λ ts. (answer s l).text ∷ ts) (answers_more (answer s l).state ls line)
+texts_more : (s : SessionState) (ls : List (List ℕ)) (line : List ℕ) → texts s (ls ++ line ∷ []) ≡ texts s ls ++ (answer (state_after s ls) line).text ∷ []
+texts_more s [] line = refl
+texts_more s (l ∷ ls) line = ap (λ ts. (answer s l).text ∷ ts) (texts_more (answer s l).state ls line)
 
 text_more : (ls : List (List ℕ)) (line : List ℕ) → text_of (ls ++ line ∷ []) ≡ text_of ls ++ (answer (state_after beginning ls) line).text
 text_more ls line =
-    ap concat (answers_more beginning ls line) ∙ concat-append (answers beginning ls) ((answer (state_after beginning ls) line).text ∷ [])
+    ap concat (texts_more beginning ls line) ∙ concat-append (texts beginning ls) ((answer (state_after beginning ls) line).text ∷ [])
     ∙ ap (λ t. text_of ls ++ t) (append-nil (answer (state_after beginning ls) line).text)
 
 text_served : (r : Reading) (s : SessionState) (first w : Option (List ℕ)) (fed line : List ℕ) (so : Served r s first w fed)

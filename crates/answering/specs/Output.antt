@@ -7,7 +7,7 @@ use Rattle.session.specs.Session.{SessionState, answers, beginning, state_after}
 
 -- the answers to some lines, one after the other
 abbrev pub text_of : List (List ℕ) → List ℕ
-text_of lines = concat (answers beginning lines)
+text_of lines = concat (texts beginning lines)
 
 -- the lines of an input, of any length: at most 999,999, of its first 1,000,000,000 bytes
 abbrev pub whole_lines : List ℕ → List (List ℕ)

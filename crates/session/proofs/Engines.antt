@@ -8,7 +8,7 @@ use Rattle.protocol.specs.Replies.{number_text}
 use Rattle.protocol.specs.declared.command.Command.{Command}
 use Rattle.protocol.specs.declared.command.Command.TheVariants.{New, Log}
 use Rattle.protocol.specs.declared.command.NewLog.{NewLog}
-use Rattle.session.specs.Session.{SessionState, Done, refused, accepted, new_log, new_page, new_number, begun, answer, answered, answers, state_after, done}
+use Rattle.session.specs.Session.{SessionState, Done, refused, accepted, new_log, new_page, new_number, begun, answer, written, texts, state_after, done}
 use Rattle.session.specs.Transcripts.{on_plain, without_engine, but_engines, EnginesAlike}
 
 new_alike : (o : Option Variant) (n : NewLog) → (new_log o (on_plain n) ≡ new_log o n) × (new_page o (on_plain n) ≡ new_page o n)
@@ -32,19 +32,19 @@ answer_alike : (s : SessionState) (line other : List ℕ) → option_map without
 answer_alike s line other e =
     let same : done s.log s.page (command_of line) ≡ done s.log s.page (command_of other) =
     sym (done_alike s.log s.page (command_of line)) ∙ ap (done s.log s.page) e ∙ done_alike s.log s.page (command_of other) in
-    ap (λ (d : Done). if nat_le 999999 s.lines then (record { text = []; state = s }) else answered (s.lines + 1) d) same
+    ap (λ (d : Done). if nat_le 999999 s.lines then (record { text = []; state = s }) else written (s.lines + 1) d) same
 
 lines_alike : (s : SessionState) (lines others : List (List ℕ)) → but_engines lines ≡ but_engines others
-    → (answers s lines ≡ answers s others) × (state_after s lines ≡ state_after s others)
+    → (texts s lines ≡ texts s others) × (state_after s lines ≡ state_after s others)
 lines_alike s [] [] e = (refl, refl)
 lines_alike s [] (other ∷ others) e = cc
 lines_alike s (line ∷ lines) [] e = cc
 lines_alike s (line ∷ lines) (other ∷ others) e =
     let same = answer_alike s line other (cc) in
     let rest = lines_alike (answer s other).state lines others (cc) in (
-      ap₂ (λ x y. x ∷ y) (ap (λ a. a.text) same) (ap (λ a. answers a.state lines) same ∙ rest.0),
+      ap₂ (λ x y. x ∷ y) (ap (λ a. a.text) same) (ap (λ a. texts a.state lines) same ∙ rest.0),
       ap (λ a. state_after a.state lines) same ∙ rest.1,
     )
 
 pub engines_alike : EnginesAlike
-engines_alike = record { answered = λ s lines others e. (lines_alike s lines others e).0; left = λ s lines others e. (lines_alike s lines others e).1 }
+engines_alike = record { texts_alike = λ s lines others e. (lines_alike s lines others e).0; states_alike = λ s lines others e. (lines_alike s lines others e).1 }

@@ -1,6 +1,7 @@
 -- A log on its page, and what the accepted lines say stands.
 use Rattle.std.proofs.Common.{◌≡◌, ℕ, ◌-◌, ◌*◌, ◌/◌, ◌%◌, ◌≤◌, List, [], length, replicate, Option, Some, None, option_map, refl, sym, ap, subst, ◌∙◌, zero-mul, mul-div_cancel, arith}
 use Rattle.std.proofs.lemmas.Bool.Decides.{nat_tests}
+use Rattle.std.proofs.Math.Nat.{mod-eq-sub-div-mul, div-mul-le_self}
 use Rattle.ublock.specs.Cipher.{key_length}
 use Rattle.ublock.specs.Laws.{Bytes}
 use Rattle.ublock.specs.Variants.{parameters}
@@ -22,6 +23,9 @@ use Rattle.session.specs.Session.{mode_of_name, new_log, new_page, call_of, log_
 use Rattle.session.specs.Transcripts.{Standing, new_standing, edited}
 use Rattle.session.proofs.Published.{published_lawful}
 
+pub whole_is : (b L : ℕ) → L % b ≡ 0 → L ≡ L / b * b
+whole_is b L whole = omega (arith, whole, mod-eq-sub-div-mul L b, div-mul-le_self L b)
+
 abbrev pub state_of : View → List ℕ → State
 state_of v page = record { count = v.count; changes = v.changes; page = page }
 
@@ -33,6 +37,7 @@ pub record Keeps (v : View) (page : List ℕ) (t : Standing) : Type 0 where
   pub whole : L % v.scheme.size ≡ 0
   pub few : L ≤ 2048 * v.scheme.size
   pub capacity : v.capacity ≡ L / v.scheme.size
+  pub blocks : t.blocks ≡ v.capacity
   pub changes : ℕ
   pub holds : Holds v.scheme L (state_of v page) (record { readings = t.readings; changes = changes })
 
@@ -61,6 +66,9 @@ module _ (v : View) (page : List ℕ) (t : Standing) (k : Keeps v page t) where
   pub long : length page ≡ k.L
   long = ap length k.holds.page ∙ length_image v.scheme k.lawful k.L t.readings k.holds.blocks k.holds.fits
 
+  pub sized : k.L ≡ t.blocks * v.scheme.size
+  sized = whole_is v.scheme.size k.L k.whole ∙ ap (λ m. m * v.scheme.size) (sym (k.blocks ∙ k.capacity))
+
   module _ (command : LogCommand) where
     abbrev call : Call
     call = call_of v.scheme.size (length page) command
@@ -69,7 +77,7 @@ module _ (v : View) (page : List ℕ) (t : Standing) (k : Keeps v page t) where
     number_is = rw (k.capacity, k.holds.count, long) refl
 
     pub kept_after : OfBytes call → refusal v.scheme.size v.capacity v.count (length page) call ≡ 0
-        → Keeps (log_after v call) (page_after v.scheme v.count page call) (record { scheme = t.scheme; readings = edited t.readings command })
+        → Keeps (log_after v call) (page_after v.scheme v.count page call) (record { scheme = t.scheme; blocks = t.blocks; readings = edited t.readings command })
     kept_after bytes zero =
         let h = accepted v.scheme k.lawful k.L (state_of v page) account call k.holds bytes (sym number_is ∙ zero) in
         let after = entered account call in
@@ -80,6 +88,7 @@ module _ (v : View) (page : List ℕ) (t : Standing) (k : Keeps v page t) where
           whole = k.whole;
           few = k.few;
           capacity = k.capacity;
+          blocks = k.blocks;
           changes = after.changes;
           holds = subst (λ rs. Holds v.scheme k.L (state_of (log_after v call) (page_after v.scheme v.count page call)) (record { readings = rs; changes = after.changes }))
               (entered_is account v.scheme.size (length page) command) h;
@@ -105,6 +114,7 @@ kept_new (Some x) n hk hs zero =
       whole = begun.whole;
       few = begun.few;
       capacity = sym (mul-div_cancel n.blocks (size_positive s ok));
+      blocks = refl;
       changes = 0;
       holds = record {
         count = refl;

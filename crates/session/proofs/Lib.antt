@@ -5,4 +5,5 @@ mod Published
 mod Kept
 mod Lines
 mod Asked
+mod Refused
 mod Shown

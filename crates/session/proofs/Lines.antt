@@ -30,7 +30,7 @@ pub record Well (k : ℕ) (before after : Option Standing) (C : Type 0) (d : Don
 either_way : (P : Done → Type 0) (n : ℕ) (x y : Done) → (n ≡ 0 → P x) → P y → P (if n == 0 then x else y)
 either_way P n x y hx hy = ⊎_elim (λ e. rw (eq-eqb n 0 e) (hx e)) (λ e. rw (ne_eqb n 0 e) hy) (cases_eq n 0)
 
-says_ok : (v : View) (page : List ℕ) (command : LogCommand) → is_accepted (text_of v page command) ≡ true
+pub says_ok : (v : View) (page : List ℕ) (command : LogCommand) → is_accepted (text_of v page command) ≡ true
 says_ok v page (Append reading) = refl
 says_ok v page (Amend index reading) = refl
 says_ok v page (Cut count) = refl
@@ -72,7 +72,7 @@ module _ (k : ℕ) where
   done_well (Some v) page (Some t) (Some (Log command)) h brings =
       let call = call_of v.scheme.size (length page) command in
       let number = refusal v.scheme.size v.capacity v.count (length page) call in
-      let after : Option Standing = Some (record { scheme = t.scheme; readings = edited t.readings command }) in
+      let after : Option Standing = Some (record { scheme = t.scheme; blocks = t.blocks; readings = edited t.readings command }) in
       either_way (Well k (Some t) after (Counts (Log command))) number (accepted (text_of v page command) (Some (log_after v call)) (page_after v.scheme v.count page call)) (refused (Some v) page number)
       (λ zero.
       let left = kept_after v page t h command (brings v.scheme.size) zero in

@@ -19,7 +19,7 @@ permutes_by Block128Key128 = variants_permute.0
 permutes_by Block128Key256 = variants_permute.1
 permutes_by Block256Key256 = variants_permute.2
 
-size_by : (v : Variant) → BlockLength (size v)
+pub size_by : (v : Variant) → BlockLength (size v)
 size_by Block128Key128 = inl refl
 size_by Block128Key256 = inl refl
 size_by Block256Key256 = inr refl

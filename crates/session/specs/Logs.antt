@@ -26,11 +26,11 @@ Wide = Pair Narrow
 
 -- by what the four engines and the mode say of themselves
 abbrev pub any_view : engines.Ghosts (Keyed (plain.Block Narrow) (KeyHalves Narrow)) → engines.Ghosts (Keyed (plain.Block Wide) (KeyHalves Wide)) → engines.Ghosts (Keyed (packed.Blocks Narrow) WordRow) → engines.Ghosts (Keyed (packed.Blocks Wide) WordRow) → modes.Ghosts StandardMode → AnyLog → Option View
-any_view pn pw kn kw m None = std.None
-any_view pn pw kn kw m (PlainNarrow l) = Some (view pn m l)
-any_view pn pw kn kw m (PlainWide l) = Some (view pw m l)
-any_view pn pw kn kw m (PackedNarrow l) = Some (view kn m l)
-any_view pn pw kn kw m (PackedWide l) = Some (view kw m l)
+any_view plain_narrow plain_wide packed_narrow packed_wide m None = std.None
+any_view plain_narrow plain_wide packed_narrow packed_wide m (PlainNarrow l) = Some (view plain_narrow m l)
+any_view plain_narrow plain_wide packed_narrow packed_wide m (PlainWide l) = Some (view plain_wide m l)
+any_view plain_narrow plain_wide packed_narrow packed_wide m (PackedNarrow l) = Some (view packed_narrow m l)
+any_view plain_narrow plain_wide packed_narrow packed_wide m (PackedWide l) = Some (view packed_wide m l)
 
 -- a session is open once it has a log
 abbrev pub stage_of : Option View → Stage

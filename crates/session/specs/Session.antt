@@ -110,8 +110,8 @@ pub record SessionState : Type 0 where
 abbrev pub beginning : SessionState
 beginning = record { lines = 0; log = None; page = [] }
 
--- what a line is answered, and the state that it leaves
-pub record Answered : Type 0 where
+-- one line: the text that it is answered with, and the state that it leaves
+pub record Step : Type 0 where
   pub text : List ℕ
   pub state : SessionState
 
@@ -120,18 +120,20 @@ abbrev pub text_by : ℕ → ℕ → Option (List ℕ) → List ℕ
 text_by k number None = refusal_text k number
 text_by k number (Some text) = text
 
-abbrev pub answered : ℕ → Done → Answered
-answered k d = record { text = text_by k d.answer.number d.answer.value; state = record { lines = k; log = d.log; page = d.page } }
+-- the k-th line, done: its answer written out
+abbrev pub written : ℕ → Done → Step
+written k d = record { text = text_by k d.answer.number d.answer.value; state = record { lines = k; log = d.log; page = d.page } }
 
 -- past line 999,999 nothing is answered, and nothing changes
-abbrev pub answer : SessionState → List ℕ → Answered
-answer s line = if nat_le 999999 s.lines then (record { text = []; state = s }) else answered (s.lines + 1) (done s.log s.page (command_of line))
+abbrev pub answer : SessionState → List ℕ → Step
+answer s line = if nat_le 999999 s.lines then (record { text = []; state = s }) else written (s.lines + 1) (done s.log s.page (command_of line))
 
 -- ---- lines one after the other
 abbrev pub state_after : SessionState → List (List ℕ) → SessionState
 state_after s [] = s
 state_after s (line ∷ lines) = state_after (answer s line).state lines
 
-abbrev pub answers : SessionState → List (List ℕ) → List (List ℕ)
-answers s [] = []
-answers s (line ∷ lines) = (answer s line).text ∷ answers (answer s line).state lines
+-- the texts that they are answered with
+abbrev pub texts : SessionState → List (List ℕ) → List (List ℕ)
+texts s [] = []
+texts s (line ∷ lines) = (answer s line).text ∷ texts (answer s line).state lines

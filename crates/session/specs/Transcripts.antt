@@ -1,10 +1,13 @@
 -- What holds of lines and the texts they were answered with, whatever the lines are.
-use Rattle.std.specs.Prelude.{◌≡◌, ℕ, ◌+◌, ◌<◌, Bool, true, List, [], ◌∷◌, ◌++◌, map, length, take, set, get_or, Option, Some, None, option_map, nat_lt, ◌==◌, if◌then◌else◌}
+use Rattle.std.specs.Prelude.{◌≡◌, ℕ, ◌+◌, ◌*◌, ◌<◌, ◌≤◌, Bool, true, false, not, List, [], ◌∷◌, ◌++◌, map, length, take, set, get_or, Option, Some, None, option_map, nat_lt, nat_le, ◌==◌, if◌then◌else◌}
 use Rattle.std.specs.Str.{byte}
-use Rattle.ublock.specs.Variants.{numbered}
+use Rattle.ublock.specs.Cipher.{key_length}
+use Rattle.ublock.specs.Variants.{numbered, parameters}
 use Rattle.ublock.specs.declared.variant.Variant.{Variant}
 use Rattle.modes.specs.Sealing.{Scheme, sealed}
+use Rattle.beatlog.specs.Refusals.{row}
 use Rattle.agreement.specs.Agreements.{HoldsSealed}
+use Rattle.pages.specs.Calls.{size}
 use Rattle.protocol.specs.Lines.{command_of}
 use Rattle.protocol.specs.Replies.{number_text, block_text, refusal_text}
 use Rattle.protocol.specs.declared.command.Command.{Command}
@@ -13,12 +16,13 @@ use Rattle.protocol.specs.declared.command.NewLog.{NewLog}
 use Rattle.protocol.specs.declared.command.LogCommand.{LogCommand}
 use Rattle.protocol.specs.declared.command.LogCommand.TheVariants.{Append, Amend, Cut, Read, Show}
 use Rattle.protocol.specs.declared.command.EngineName.TheVariants.{Plain}
-use Rattle.session.specs.Session.{SessionState, beginning, answer, answers, state_after, published, mode_of_name}
+use Rattle.session.specs.Session.{SessionState, beginning, answer, texts, state_after, published, mode_of_name}
 
 -- ---- what stands, by the accepted lines alone
--- how readings are sealed, and the readings in their order
+-- how readings are sealed, on a page of how many blocks, and the readings in their order
 pub record Standing : Type 0 where
   pub scheme : Scheme
+  pub blocks : ℕ
   pub readings : List (List ℕ)
 
 -- a text begins with `ok` or `no`: its first byte tells
@@ -35,13 +39,13 @@ edited readings (Show index) = readings
 
 -- an accepted N
 abbrev pub new_standing : NewLog → Variant → Standing
-new_standing n v = record { scheme = published v (mode_of_name n.mode) n.key n.start; readings = [] }
+new_standing n v = record { scheme = published v (mode_of_name n.mode) n.key n.start; blocks = n.blocks; readings = [] }
 
 -- what an accepted line makes of it. Nothing stands before an N
 abbrev pub said : Option Standing → Option Command → Option Standing
 said standing None = standing
 said standing (Some (New n)) = option_map (new_standing n) (numbered n.variant)
-said standing (Some (Log command)) = option_map (λ s. record { scheme = s.scheme; readings = edited s.readings command }) standing
+said standing (Some (Log command)) = option_map (λ s. record { scheme = s.scheme; blocks = s.blocks; readings = edited s.readings command }) standing
 
 -- lines, each with its text
 abbrev pub standing_from : Option Standing → List (List ℕ) → List (List ℕ) → Option Standing
@@ -68,6 +72,27 @@ abbrev pub count_text : Option Standing → List ℕ
 count_text None = []
 count_text (Some s) = number_text (length s.readings)
 
+-- with which number a command is refused where these readings stand: the first that applies, or 0 where none does
+abbrev pub log_refusal : Standing → LogCommand → ℕ
+log_refusal s (Append reading) = row 5 (not (length reading == s.scheme.size)) (row 7 (nat_le s.blocks (length s.readings)) 0)
+log_refusal s (Amend index reading) = row 5 (not (length reading == s.scheme.size)) (row 8 (nat_le (length s.readings) index) 0)
+log_refusal s (Cut count) = row 8 (nat_lt (length s.readings) count) 0
+log_refusal s (Read index) = row 8 (nat_le (length s.readings) index) 0
+log_refusal s (Show index) = row 8 (nat_le (length s.readings) index) 0
+
+-- an N where none was accepted before
+abbrev pub new_refusal : NewLog → Option Variant → ℕ
+new_refusal n None = 1
+new_refusal n (Some v) = row 2 (not (length n.key == key_length (parameters v))) (row 3 (not (length n.start == size v)) (row 6 (nat_lt 2048 n.blocks) 0))
+
+-- a line
+abbrev pub line_refusal : Option Standing → Option Command → ℕ
+line_refusal standing None = 10
+line_refusal None (Some (New n)) = new_refusal n (numbered n.variant)
+line_refusal None (Some (Log command)) = 11
+line_refusal (Some s) (Some (New n)) = 11
+line_refusal (Some s) (Some (Log command)) = log_refusal s command
+
 -- N, A, M and C
 abbrev pub Counts : Command → Type 0
 Counts (New n) = Unit
@@ -80,12 +105,12 @@ Counts (Log (Show index)) = ⊥
 -- the page: none before an N, and then the readings sealed and zeros
 abbrev pub PageHolds : Option Standing → List ℕ → Type 0
 PageHolds None page = page ≡ []
-PageHolds (Some s) page = HoldsSealed s.scheme (length page) s.readings page
+PageHolds (Some s) page = HoldsSealed s.scheme (s.blocks * s.scheme.size) s.readings page
 
 -- ---- the theorems
 -- what stands after these lines
 abbrev pub standing_after : List (List ℕ) → Option Standing
-standing_after lines = standing lines (answers beginning lines)
+standing_after lines = standing lines (texts beginning lines)
 
 -- what a line after these is answered
 abbrev pub text_after : List (List ℕ) → List ℕ → List ℕ
@@ -101,6 +126,15 @@ pub record ReadingsShown : Type 0 where
       → is_accepted (text_after lines line) ≡ true → text_after lines line ≡ count_text (standing_after (lines ++ line ∷ []))
   pub page : (lines : List (List ℕ)) → PageHolds (standing_after lines) (state_after beginning lines).page
 
+-- after any lines, which line is accepted, and with what number another is refused, is what the accepted lines say
+pub record RefusalsTold : Type 0 where
+  pub accepted : (lines : List (List ℕ)) (line : List ℕ) → length lines < 999999
+      → is_accepted (text_after lines line) ≡ (line_refusal (standing_after lines) (command_of line) == 0)
+  pub refused : (lines : List (List ℕ)) (line : List ℕ) → length lines < 999999 → is_accepted (text_after lines line) ≡ false
+      → text_after lines line ≡ refusal_text (length lines + 1) (line_refusal (standing_after lines) (command_of line))
+  -- after so many, nothing is answered
+  pub past : (lines : List (List ℕ)) (line : List ℕ) → 999999 ≤ length lines → text_after lines line ≡ []
+
 -- without the name of the engine: that of the plain one stands for both
 abbrev pub on_plain : NewLog → NewLog
 on_plain n = record { variant = n.variant; engine = Plain; mode = n.mode; blocks = n.blocks; key = n.key; start = n.start }
@@ -115,5 +149,5 @@ but_engines = map (λ line. option_map without_engine (command_of line))
 
 -- lines that differ in their engines alone are answered alike, from any state, and leave the same
 pub record EnginesAlike : Type 0 where
-  pub answered : (s : SessionState) (lines others : List (List ℕ)) → but_engines lines ≡ but_engines others → answers s lines ≡ answers s others
-  pub left : (s : SessionState) (lines others : List (List ℕ)) → but_engines lines ≡ but_engines others → state_after s lines ≡ state_after s others
+  pub texts_alike : (s : SessionState) (lines others : List (List ℕ)) → but_engines lines ≡ but_engines others → texts s lines ≡ texts s others
+  pub states_alike : (s : SessionState) (lines others : List (List ℕ)) → but_engines lines ≡ but_engines others → state_after s lines ≡ state_after s others

@@ -8,7 +8,7 @@ ghost use Rattle.session.specs.Logs.{any_view, stage_of};
 ghost use Rattle.session.specs.Session.{on_log, new_log, new_page, new_number};
 
 use crate::begin::begin;
-use crate::commands::carry_out;
+use crate::commands::apply;
 use crate::page::ROOM_BLOCKS;
 use beatlog::fault::LogFault;
 use beatlog::log::Log;
@@ -96,10 +96,10 @@ impl AnyLog {
     {
         match self {
             AnyLog::None => unreachable!(),
-            AnyLog::PlainNarrow(log) => carry_out(log, page, work, command),
-            AnyLog::PlainWide(log) => carry_out(log, page, work, command),
-            AnyLog::PackedNarrow(log) => carry_out(log, page, work, command),
-            AnyLog::PackedWide(log) => carry_out(log, page, work, command),
+            AnyLog::PlainNarrow(log) => apply(log, page, work, command),
+            AnyLog::PlainWide(log) => apply(log, page, work, command),
+            AnyLog::PackedNarrow(log) => apply(log, page, work, command),
+            AnyLog::PackedWide(log) => apply(log, page, work, command),
         }
     }
 }

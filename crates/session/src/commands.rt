@@ -13,8 +13,8 @@ use modes::mode::Mode;
 use protocol::command::LogCommand;
 use protocol::reply::Reply;
 
-/// Carries out a command on a log and its page. A work buffer is lent, as long as the page.
-pub(crate) fn carry_out<E: Engine + Copy, M: Mode>(
+/// Applies a command to a log and its page. A work buffer is lent, as long as the page.
+pub(crate) fn apply<E: Engine + Copy, M: Mode>(
     log: &mut Log<E, M>,
     page: &mut [u8],
     work: &mut [u8],

@@ -7,8 +7,8 @@ ghost use Rattle.session.specs.declared.fault.LineFault.TheVariants.{Log};
 use beatlog::fault::LogFault;
 
 /// Why a line is refused.
-#[derive(Clone, Copy, Debug, PartialEq, Eq, Hash)]
-pub enum LineFault {
+#[derive(Clone, Copy)]
+pub(crate) enum LineFault {
     /// 1 to 9: by the key or by the log
     Log(LogFault),
     /// 10: the line has the wrong shape
@@ -19,7 +19,7 @@ pub enum LineFault {
 
 impl LineFault {
     /// The number that says which refusal this is.
-    pub fn number(self) -> u8
+    pub(crate) fn number(self) -> u8
         ensures { result ≡ (line_answer {T = ℕ} (Err self)).number }
     {
         match self {

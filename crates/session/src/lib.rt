@@ -5,6 +5,6 @@
 mod any_log;
 mod begin;
 mod commands;
-pub mod fault;
+mod fault;
 mod page;
 pub mod session;

@@ -3,7 +3,7 @@
 ghost use Rattle.std.specs.Prelude.{◌≡◌};
 ghost use Rattle.session.specs.Faults.{line_answer};
 ghost use Rattle.session.specs.Session.{SessionState, answer, beginning, done};
-ghost use Rattle.session.specs.Transcripts.{EnginesAlike, ReadingsShown};
+ghost use Rattle.session.specs.Transcripts.{EnginesAlike, ReadingsShown, RefusalsTold};
 
 use crate::any_log::{AnyLog, Stage, Viewed};
 use crate::fault::LineFault;
@@ -48,11 +48,12 @@ impl Session {
     }
 
     /// Answers a line, of which the first 201 bytes are enough. After line 999,999 it does nothing and answers nothing.
-    #[tactic(auto, using(crate::proofs::Shown::readings_shown, crate::proofs::Engines::engines_alike))]
+    #[tactic(auto, using(crate::proofs::Shown::readings_shown, crate::proofs::Shown::refusals_told, crate::proofs::Engines::engines_alike))]
     pub fn answer(&mut self, line: &[u8]) -> Reply
         ensures text { result ≡ (answer (⟦<Session as Shown>⟧.shown self.old) line.now).text }
         ensures state { ⟦<Session as Shown>⟧.shown self.new ≡ (answer (⟦<Session as Shown>⟧.shown self.old) line.now).state }
         ensures readings_shown { ReadingsShown }
+        ensures refusals_told { RefusalsTold }
         ensures engines_alike { EnginesAlike }
     {
         if self.lines >= MAX_LINES {
