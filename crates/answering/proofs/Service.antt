@@ -8,7 +8,7 @@ use Rattle.std.proofs.lemmas.List.{append-nil, length-drop, length-take, take-ap
 use Rattle.std.proofs.lemmas.List.Folds.{concat-append}
 use Rattle.lines.specs.Lines.{Reading, HasRead, after, line_end, lines_ahead, lines_of}
 use Rattle.protocol.proofs.Texts.{first_bytes_suffice}
-use Rattle.session.specs.Session.{Answered, SessionState, answer, answered, answers, beginning, done, state_after}
+use Rattle.session.specs.Session.{Step, SessionState, answer, written, texts, beginning, done, state_after}
 use Rattle.answering.specs.Output.{AppendsFront, FrontWritten, Served, ServedAll, output_of, text_of, whole_lines}
 
 -- ---- known bytes
@@ -97,16 +97,16 @@ text_served r s first w fed line so = ap (λ t. text_of so.given ++ (answer t li
 -- ---- a line is answered as its first bytes are
 answer_first : (s : SessionState) (line : List ℕ) → answer s (take 201 line) ≡ answer s line
 answer_first s line =
-    ap (λ c. if nat_le 999999 s.lines then (record { text = []; state = s }) else answered (s.lines + 1) (done s.log s.page c)) (first_bytes_suffice line)
+    ap (λ c. if nat_le 999999 s.lines then (record { text = []; state = s }) else written (s.lines + 1) (done s.log s.page c)) (first_bytes_suffice line)
 
-answers_first : (s : SessionState) (ls : List (List ℕ)) → answers s (map (take 201) ls) ≡ answers s ls
-answers_first s [] = refl
-answers_first s (l ∷ ls) =
-    ap (λ (a : Answered). a.text ∷ answers a.state (map (take 201) ls)) (answer_first s l)
-    ∙ ap (λ ts. (answer s l).text ∷ ts) (answers_first (answer s l).state ls)
+texts_first : (s : SessionState) (ls : List (List ℕ)) → texts s (map (take 201) ls) ≡ texts s ls
+texts_first s [] = refl
+texts_first s (l ∷ ls) =
+    ap (λ (a : Step). a.text ∷ texts a.state (map (take 201) ls)) (answer_first s l)
+    ∙ ap (λ ts. (answer s l).text ∷ ts) (texts_first (answer s l).state ls)
 
 output_is : (input : List ℕ) → text_of (lines_of input) ≡ output_of input
-output_is input = ap concat (answers_first beginning (whole_lines input))
+output_is input = ap concat (texts_first beginning (whole_lines input))
 
 pub line_served : (r now : Reading) (s next : SessionState) (first w more : Option (List ℕ)) (fed part line : List ℕ)
     → Served r s first w fed
@@ -200,18 +200,18 @@ on_err (Ok x) p = tt
 on_err (Err e) p = p
 
 -- ---- where reading or writing fails
-answers_append : (s : SessionState) (ls more : List (List ℕ)) → answers s (ls ++ more) ≡ answers s ls ++ answers (state_after s ls) more
-answers_append s [] more = refl
-answers_append s (l ∷ ls) more = ap (λ ts. (answer s l).text ∷ ts) (answers_append (answer s l).state ls more)
+texts_append : (s : SessionState) (ls more : List (List ℕ)) → texts s (ls ++ more) ≡ texts s ls ++ texts (state_after s ls) more
+texts_append s [] more = refl
+texts_append s (l ∷ ls) more = ap (λ ts. (answer s l).text ∷ ts) (texts_append (answer s l).state ls more)
 
-text_append : (ls more : List (List ℕ)) → text_of (ls ++ more) ≡ text_of ls ++ concat (answers (state_after beginning ls) more)
-text_append ls more = ap concat (answers_append beginning ls more) ∙ concat-append (answers beginning ls) (answers (state_after beginning ls) more)
+text_append : (ls more : List (List ℕ)) → text_of (ls ++ more) ≡ text_of ls ++ concat (texts (state_after beginning ls) more)
+text_append ls more = ap concat (texts_append beginning ls more) ∙ concat-append (texts beginning ls) (texts (state_after beginning ls) more)
 
 pub served_front : (r : Reading) (s : SessionState) (first w : Option (List ℕ)) (fed : List ℕ) → Served r s first w fed → FrontWritten first w fed
 served_front r s first w fed so xs =
     let ahead = lines_ahead r xs in
     subst (AppendsFront first w) (sym (text_append so.given ahead) ∙ ap text_of (so.has_read xs) ∙ output_is (fed ++ xs))
-    (front_of first w (text_of so.given) (concat (answers (state_after beginning so.given) ahead)) so.answered)
+    (front_of first w (text_of so.given) (concat (texts (state_after beginning so.given) ahead)) so.answered)
 
 pub line_front : (r now : Reading) (s : SessionState) (first w more : Option (List ℕ)) (fed part line : List ℕ)
     → Served r s first w fed
@@ -221,7 +221,7 @@ pub line_front : (r now : Reading) (s : SessionState) (first w more : Option (Li
 line_front r now s first w more fed part line so reads wrote xs =
     let ls = so.given ++ line ∷ [] in
     let ahead = lines_ahead now xs in
-    let rest = concat (answers (state_after beginning ls) ahead) in
+    let rest = concat (texts (state_after beginning ls) ahead) in
     subst (AppendsFront first more)
     (sym (append_assoc (text_of so.given) (answer s line).text rest) ∙ ap (λ t. t ++ rest) (text_served r s first w fed line so)
     ∙ sym (text_append ls ahead) ∙ ap text_of (reads so.given so.has_read xs) ∙ output_is ((fed ++ part) ++ xs))

@@ -3,7 +3,7 @@ use Rattle.std.specs.Prelude.{◌≡◌, ℕ, List, ◌++◌, take, Option, IfSo
 use Rattle.std.specs.List.{concat}
 use Rattle.std.specs.Io.KnownBytes.{Appends}
 use Rattle.lines.specs.Lines.{Reading, HasRead, lines_of, split_lines}
-use Rattle.session.specs.Session.{SessionState, answers, beginning, state_after}
+use Rattle.session.specs.Session.{SessionState, texts, beginning, state_after}
 
 -- the answers to some lines, one after the other
 abbrev pub text_of : List (List ℕ) → List ℕ
