@@ -4,7 +4,7 @@ use Rattle.std.specs.Simd.Lanes.{Each1}
 use Rattle.std.proofs.lemmas.Simd.{Each1-chunk}
 use Rattle.ublock.specs.Parts.{part}
 use Rattle.modes.specs.Sealing.{Scheme, seal_block, sealed, blocks, last_block}
-use Rattle.modes.proofs.Rows.{drop_past}
+use Rattle.cipher.proofs.EngineRuns.{drop_past}
 
 -- ---- what holds of each of a row
 pub each_append : {A : Type 0} (P : A → Type 0) (xs ys : List A) → Each1 P xs → Each1 P ys → Each1 P (xs ++ ys)

@@ -1,4 +1,4 @@
-//! Calls on numbers, truth values and bytes alone: blocks put through an engine, and pages sealed and opened. Each call fills its engine
+//! Calls on numbers, truth values and bytes alone: blocks enciphered and deciphered, and pages sealed and opened. Each call fills its engine
 //! by the number of a variant, takes the packed engine where `packed` says so, else the plain one, and answers 0 or the number of a refusal.
 
 #![tactic(auto)]
@@ -8,31 +8,35 @@ mod rows;
 mod runs;
 
 ghost use Rattle.std.specs.Prelude.{◌≡◌, length};
-ghost use Rattle.boundary.specs.Calls.{Moved, PageSealed, PageOpened, mode, run_refusal, row_refusal};
+ghost use Rattle.cipher.specs.Rows.{row_refusal};
+ghost use Rattle.boundary.specs.Calls.{RowCiphered, SealedByNumber, OpenedByNumber, direction, mode, run_refusal};
 
+use cipher::rows::Direction;
 use halves::{Narrow, Wide};
 use modes::standard::StandardMode;
 use pages::setup::{EngineKind, Setup};
 
-/// Puts one run of the engine through it, at most as many blocks as it has lanes: there, or `back`.
-pub fn run(variant: u32, packed: bool, back: bool, key: &[u8], run: &mut [u8]) -> u32
-    ensures { Moved (run_refusal packed (length run.old)) variant back key.now run.old run.new result }
+/// Enciphers each block of one run, at most as many as the engine has lanes, or deciphers each where `decipher` says so.
+pub fn run(variant: u32, packed: bool, decipher: bool, key: &[u8], run: &mut [u8]) -> u32
+    ensures { RowCiphered (run_refusal packed (length run.old)) variant (direction decipher) key.now run.old run.new result }
 {
+    let direction = direction_of(decipher);
     if runs::is_wide(variant) {
-        runs::run_halves::<Wide>(variant, packed, back, key, run)
+        runs::run_halves::<Wide>(variant, packed, direction, key, run)
     } else {
-        runs::run_halves::<Narrow>(variant, packed, back, key, run)
+        runs::run_halves::<Narrow>(variant, packed, direction, key, run)
     }
 }
 
-/// Puts a row of any number of blocks through the engine, in runs of as many as it has lanes: there, or `back`.
-pub fn row(variant: u32, packed: bool, back: bool, key: &[u8], row: &mut [u8]) -> u32
-    ensures { Moved (row_refusal (length row.old)) variant back key.now row.old row.new result }
+/// Enciphers each block of a row of any number of them, or deciphers each where `decipher` says so, as many at a time as the engine has lanes.
+pub fn row(variant: u32, packed: bool, decipher: bool, key: &[u8], row: &mut [u8]) -> u32
+    ensures { RowCiphered (row_refusal (length row.old)) variant (direction decipher) key.now row.old row.new result }
 {
+    let direction = direction_of(decipher);
     if runs::is_wide(variant) {
-        rows::row_halves::<Wide>(variant, packed, back, key, row)
+        rows::row_halves::<Wide>(variant, packed, direction, key, row)
     } else {
-        rows::row_halves::<Narrow>(variant, packed, back, key, row)
+        rows::row_halves::<Narrow>(variant, packed, direction, key, row)
     }
 }
 
@@ -46,7 +50,7 @@ pub fn seal(
     readings: &[u8],
     page: &mut [u8],
 ) -> u32
-    ensures { PageSealed (record { variant = variant; mode = mode cbc; key = key.now; start = start.now }) readings.now page.old page.new result }
+    ensures { SealedByNumber (record { variant = variant; mode = mode cbc; key = key.now; start = start.now }) readings.now page.old page.new result }
 {
     let setup = Setup {
         variant,
@@ -69,7 +73,7 @@ pub fn open(
     n: usize,
     place: &mut [u8],
 ) -> u32
-    ensures { PageOpened (record { variant = variant; mode = mode cbc; key = key.now; start = start.now }) page.now n place.old place.new result }
+    ensures { OpenedByNumber (record { variant = variant; mode = mode cbc; key = key.now; start = start.now }) page.now n place.old place.new result }
 {
     let setup = Setup {
         variant,
@@ -79,6 +83,16 @@ pub fn open(
         start,
     };
     numbers::of_log(setup.open(page, n, place))
+}
+
+fn direction_of(decipher: bool) -> Direction
+    ensures { result ≡ direction decipher }
+{
+    if decipher {
+        Direction::Decipher
+    } else {
+        Direction::Encipher
+    }
 }
 
 fn engine_kind(packed: bool) -> EngineKind {

@@ -3,13 +3,13 @@
 ghost use Rattle.std.specs.Prelude.{◌≡◌, true, false, length, IfSome};
 ghost use Rattle.ublock.specs.Cipher.{block_length};
 ghost use Rattle.ublock.specs.Variants.{numbered};
-ghost use Rattle.cipher.specs.Engines.{Ran, engine_answer};
 ghost use Rattle.cipher.specs.Keys.{Filled, key_answer};
 ghost use Rattle.pages.specs.Calls.{size};
-ghost use Rattle.boundary.specs.Calls.{Moved, lanes, run_refusal, way};
+ghost use Rattle.boundary.specs.Calls.{RowCiphered, lanes, run_refusal};
 
 use crate::numbers;
-use cipher::engine::{Engine, EngineFault, KeyFault};
+use cipher::engine::{Engine, KeyFault};
+use cipher::rows::{Direction, one_run};
 use packed::Packed;
 use packed::arrangement::Arrangement;
 use plain::Plain;
@@ -30,12 +30,12 @@ pub(crate) fn is_wide(variant: u32) -> bool
 pub(crate) fn run_halves<H: Arrangement>(
     variant: u32,
     packed: bool,
-    back: bool,
+    direction: Direction,
     key: &[u8],
     run: &mut [u8],
 ) -> u32
     requires length { IfSome (numbered variant) (λ v. size v ≡ block_length H.layout) }
-    ensures { Moved (run_refusal packed (length run.old)) variant back key.now run.old run.new result }
+    ensures { RowCiphered (run_refusal packed (length run.old)) variant direction key.now run.old run.new result }
 {
     if packed {
         run_with(
@@ -43,7 +43,7 @@ pub(crate) fn run_halves<H: Arrangement>(
             key,
             Packed::<H>::fill(variant, key),
             packed,
-            back,
+            direction,
             run,
         )
     } else {
@@ -52,7 +52,7 @@ pub(crate) fn run_halves<H: Arrangement>(
             key,
             Plain::<H>::fill(variant, key),
             packed,
-            back,
+            direction,
             run,
         )
     }
@@ -64,31 +64,16 @@ fn run_with<E: Engine + Copy>(
     key: &[u8],
     engine: Result<E, KeyFault>,
     packed: bool,
-    back: bool,
+    direction: Direction,
     run: &mut [u8],
 ) -> u32
     requires filled { Filled E.block_length E.enc E.dec variant key.now (key_answer engine) }
     requires length { IfSome (numbered variant) (λ v. size v ≡ E.block_length) }
     requires lanes { E.lane_count ≡ lanes packed E.block_length }
-    ensures { Moved (run_refusal packed (length run.old)) variant back key.now run.old run.new result }
+    ensures { RowCiphered (run_refusal packed (length run.old)) variant direction key.now run.old run.new result }
 {
     match engine {
-        Ok(engine) => numbers::of_engine(there_or_back(&engine, back, run)),
+        Ok(engine) => numbers::of_engine(one_run(&engine, direction, run)),
         Err(fault) => numbers::of_key(fault),
-    }
-}
-
-/// The run enciphered, or deciphered for a call that goes back.
-pub(crate) fn there_or_back<E: Engine>(
-    engine: &E,
-    back: bool,
-    run: &mut [u8],
-) -> Result<(), EngineFault>
-    ensures { Ran E.block_length E.lane_count (way back (E.enc engine.now) (E.dec engine.now)) run.old run.new (engine_answer result) }
-{
-    if back {
-        engine.decipher(run)
-    } else {
-        engine.encipher(run)
     }
 }

@@ -36,9 +36,9 @@ fn text(heap: Global, case: &Case, packed: bool) -> anyhow::Result<String> {
 fn answer(heap: Global, case: &Case, packed: bool) -> anyhow::Result<Outcome> {
     let (variant, key) = (case.variant, case.key.as_slice());
     match &case.call {
-        Call::Run { back, run } => {
+        Call::Run { decipher, run } => {
             let mut bytes = run.as_slice().to_vec(heap)?;
-            let number = boundary::run(variant, packed, *back, key, bytes.as_mut_slice());
+            let number = boundary::run(variant, packed, *decipher, key, bytes.as_mut_slice());
             Ok(Outcome { number, bytes })
         }
         Call::Seal {

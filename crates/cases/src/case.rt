@@ -6,9 +6,9 @@ use std::alloc::Global;
 /// A call with its arguments.
 #[derive(Drop)]
 pub(crate) enum Call {
-    /// a run enciphered, or deciphered where it goes back
+    /// a run enciphered, or deciphered
     Run {
-        back: bool,
+        decipher: bool,
         run: Vec<u8>,
     },
     /// readings sealed into a page of so many bytes
@@ -55,9 +55,9 @@ impl Case {
     }
 }
 
-fn read_run(heap: Global, back: bool, fields: &Vec<&str>) -> anyhow::Result<Call> {
+fn read_run(heap: Global, decipher: bool, fields: &Vec<&str>) -> anyhow::Result<Call> {
     let run = bytes(heap, field(fields, 3))?;
-    Ok(Call::Run { back, run })
+    Ok(Call::Run { decipher, run })
 }
 
 fn read_seal(heap: Global, fields: &Vec<&str>) -> anyhow::Result<Call> {

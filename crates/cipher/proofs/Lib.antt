@@ -1,1 +1,2 @@
+pub mod EngineRuns
 pub mod Sums

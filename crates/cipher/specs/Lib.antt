@@ -1,2 +1,3 @@
 pub mod Engines
 pub mod Keys
+pub mod Rows

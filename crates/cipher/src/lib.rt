@@ -4,3 +4,4 @@
 
 pub mod addition;
 pub mod engine;
+pub mod rows;

@@ -8,7 +8,9 @@ use borrow.Rule.Slice.PartMut.{put_mid}
 use Rattle.ublock.specs.Cipher.{xor}
 use Rattle.ublock.specs.Laws.{Bytes, Block}
 use Rattle.ublock.proofs.Bytes.{length-xor, xor-append}
-use Rattle.cipher.specs.Engines.{each}
+use Rattle.cipher.specs.Engines.{Answer, each}
+use Rattle.cipher.specs.Rows.{RowReplaced}
+use Rattle.cipher.proofs.EngineRuns.{row_of_blocks}
 use Rattle.modes.specs.Modes.{Mask}
 use Rattle.modes.specs.Sealing.{Scheme, Lawful, AllBlocks, AllLong, along, blocks, joined, last_block, masks_along, open_block, opened, previous, seal_block, sealed}
 use Rattle.modes.proofs.Rows.{along_add, blocks_are_blocks, blocks_long, blocks_take, joined_append, length_blocks, length_joined, length_opened, length_sealed, opened_long, previous_joined, sealed_add, sealed_free, sealed_long}
@@ -41,18 +43,19 @@ module _ (b : ℕ) (enc : List ℕ → List ℕ) (g h : ℕ → List ℕ → Lis
       ∙ ap (λ z. xor (enc y) o ++ z) (masked_blocks n (suc i) x rest lx lr)
 
 -- what a group of n blocks is, with a mask added to each before the engine and another after it
-pub group_masked : (s : Scheme) → Lawful s → (b n i : ℕ) (v w xs a z r0 r1 r2 r3 : List ℕ)
+pub group_masked : (s : Scheme) → Lawful s → (b n i : ℕ) (v w xs a z r0 r1 r2 r3 : List ℕ) (answer : Answer Unit)
     → b ≡ s.size → v ≡ s.start → length w ≡ b → length xs ≡ n * b
     → a ≡ masks_along s.first v i w (blocks (length v) n xs) → z ≡ masks_along s.last v i w (blocks (length v) n xs)
-    → r0 ≡ xs → r1 ≡ xor r0 a → r2 ≡ each b s.enc n r1 → r3 ≡ xor r2 z → r3 ≡ joined (along (seal_block s) i w (blocks b n xs))
-group_masked s ok b n i v w xs a z r0 r1 r2 r3 e ev lw long is_a is_z is0 is1 is2 is3 =
+    → r0 ≡ xs → r1 ≡ xor r0 a → RowReplaced s.size s.enc r1 r2 answer → r3 ≡ xor r2 z → r3 ≡ joined (along (seal_block s) i w (blocks b n xs))
+group_masked s ok b n i v w xs a z r0 r1 r2 r3 answer e ev lw long is_a is_z is0 is1 replaced is3 =
     let p = s.size in
     let masks : Mask → List ℕ = λ f. masks_along f s.start i w (blocks p n xs) in
     let mask : (f : Mask) → masks_along f v i w (blocks (length v) n xs) ≡ masks f =
     λ f. ap (λ k. masks_along f k i w (blocks (length k) n xs)) ev ∙ ap (λ k. masks_along f s.start i w (blocks k n xs)) ok.start.long in
     let lx : length xs ≡ n * p = long ∙ ap (λ k. n * k) e in
     let e1 : r1 ≡ xor xs (masks s.first) = is1 ∙ ap (λ k. xor k a) is0 ∙ ap (xor xs) (is_a ∙ mask s.first) in
-    let e2 : r2 ≡ each p s.enc n r1 = is2 ∙ ap (λ k. each k s.enc n r1) e in
+    let l1 : length r1 ≡ n * p = ap length is1 ∙ length-xor r0 a ∙ ap length is0 ∙ lx in
+    let e2 : r2 ≡ each p s.enc n r1 = (row_of_blocks p p n s.enc r1 r2 answer refl (⊎_elim (λ q. omega arith) (λ q. omega arith) ok.length) l1 replaced).1 in
     is3 ∙ ap (λ k. xor k z) (e2 ∙ ap (each p s.enc n) e1) ∙ ap (xor (each p s.enc n (xor xs (masks s.first)))) (is_z ∙ mask s.last)
     ∙ masked_blocks p s.enc (s.first s.start) (s.last s.start) ok.permutes.enc_long (λ j u. ok.rule.first.long s.start j u ok.start.long)
     (λ j u. ok.rule.last.long s.start j u ok.start.long) n i w xs (lw ∙ e) lx

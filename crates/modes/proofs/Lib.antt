@@ -1,4 +1,3 @@
 pub mod Rows
-pub mod EngineRuns
 mod Groups
 mod MaskRows

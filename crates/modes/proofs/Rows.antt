@@ -1,13 +1,14 @@
 -- Rows of blocks: cut from bytes and joined, sealed and opened.
 use Rattle.std.proofs.Common.{◌≡◌, ℕ, zero, suc, ◌+◌, ◌*◌, ◌<◌, ◌≤◌, false, ⊎_elim, List, [], ◌∷◌, ◌++◌, length, get_or, take, drop, refl, sym, ap, ◌∙◌, arith, append_assoc, length-append, length-drop}
 use Rattle.std.proofs.Math.Nat.{zero-mul, suc-mul}
-use Rattle.std.proofs.lemmas.List.{drop-drop, drop-take, length-take-le, take-take, take_at, drop_at}
+use Rattle.std.proofs.lemmas.List.{drop-take, length-take-le, take-take, take_at, drop_at}
 use Rattle.std.proofs.lemmas.Nat.{mul-le}
 use Rattle.std.proofs.lemmas.Simd.{Each1-weaker}
 use Rattle.ublock.specs.Cipher.{xor}
 use Rattle.ublock.specs.Laws.{Bytes, Block, Permutes}
 use Rattle.ublock.proofs.Bytes.{xor_twice, length-xor, block-xor, block-take, bytes-take, bytes-drop}
 use Rattle.cipher.specs.Engines.{Shape}
+use Rattle.cipher.proofs.EngineRuns.{drop_past}
 use Rattle.cipher.specs.declared.engine.Engine as engines
 use Rattle.modes.specs.declared.mode.Mode as modes
 use Rattle.modes.specs.declared.sealer.Sealer.{Sealer}
@@ -45,9 +46,6 @@ pub blocks_joined : (b : ℕ) (xs : List (List ℕ)) (rest : List ℕ) → AllLo
 blocks_joined b [] rest h = refl
 blocks_joined b (x ∷ xs) rest h =
     rw (append_assoc x (joined xs) rest, take_at x (joined xs ++ rest) b h.0, drop_at x (joined xs ++ rest) b h.0, blocks_joined b xs rest h.1)
-
-pub drop_past : (b i : ℕ) (xs : List ℕ) → drop (i * b) (drop b xs) ≡ drop (suc i * b) xs
-drop_past b i xs = drop-drop (i * b) b xs ∙ ap (λ m. drop m xs) (omega (arith, suc-mul i b))
 
 blocks_add : (b m n : ℕ) (xs : List ℕ) → blocks b (m + n) xs ≡ blocks b m xs ++ blocks b n (drop (m * b) xs)
 blocks_add b zero n xs = ap (λ k. blocks b k xs) {x = 0 + n} {y = n} (omega arith) ∙ ap (λ k. blocks b n (drop k xs)) (sym (zero-mul b))

@@ -4,7 +4,6 @@
 
 pub mod cbc;
 pub mod ecb;
-mod engine_runs;
 pub mod kept_block;
 mod masks;
 pub mod mode;

@@ -5,12 +5,12 @@ ghost use Rattle.ublock.specs.Laws.{Block};
 ghost use Rattle.modes.specs.Examples.{SealedAsWorked};
 ghost use Rattle.modes.specs.Sealing.{blocks, joined, opened, previous, scheme, scheme_of, sealed, whole_blocks};
 
-use crate::engine_runs::{decipher_blocks, encipher_blocks};
 use crate::kept_block::KeptBlock;
 use crate::masks::{previous_block, write_masks};
 use crate::mode::Mode;
 use cipher::addition::add;
 use cipher::engine::Engine;
+use cipher::rows::{Direction, whole_row};
 
 /// An engine, a mode and a start block: what fixes the bytes of sealed blocks. It may hold a key, so it is not printed or
 /// compared by `==`.
@@ -229,7 +229,9 @@ impl<E: Engine + Copy, M: Mode> Sealer<E, M> {
         );
         row.copy_from_slice(readings);
         add(row, first);
-        encipher_blocks(&self.engine, b, n, row);
+        if whole_row(&self.engine, Direction::Encipher, row).is_err() {
+            unreachable!()
+        }
         add(row, last);
     }
 
@@ -266,7 +268,9 @@ impl<E: Engine + Copy, M: Mode> Sealer<E, M> {
         );
         readings.copy_from_slice(row);
         add(readings, last);
-        decipher_blocks(&self.engine, b, n, readings);
+        if whole_row(&self.engine, Direction::Decipher, readings).is_err() {
+            unreachable!()
+        }
         add(readings, first);
     }
 }

@@ -7,7 +7,7 @@ use Rattle.std.proofs.lemmas.Nat.{mul-le}
 use Rattle.ublock.specs.Laws.{Bytes, Block}
 use Rattle.ublock.specs.Parts.{part}
 use Rattle.ublock.proofs.Bytes.{bytes-take, bytes-drop}
-use Rattle.modes.proofs.Rows.{drop_past}
+use Rattle.cipher.proofs.EngineRuns.{drop_past}
 
 pub part_first : (b : ℕ) (xs : List ℕ) → part b 0 xs ≡ take b xs
 part_first b xs = ap (λ k. take b (drop k xs)) (zero-mul b)

@@ -3,34 +3,35 @@
 #![tactic(auto)]
 
 ghost use Rattle.std.specs.Prelude.{length};
-ghost use Rattle.boundary.specs.Calls.{Moved, PageSealed, PageOpened, mode, run_refusal, row_refusal};
+ghost use Rattle.cipher.specs.Rows.{row_refusal};
+ghost use Rattle.boundary.specs.Calls.{RowCiphered, SealedByNumber, OpenedByNumber, direction, mode, run_refusal};
 
-/// Puts one run of the engine through it, at most as many blocks as it has lanes: there, or `back`.
+/// Enciphers each block of one run, at most as many as the engine has lanes, or deciphers each where `decipher` says so.
 #[unsafe(no_mangle)]
 pub extern "C" fn weddrul_run(
     variant: u32,
     packed: bool,
-    back: bool,
+    decipher: bool,
     key: &[u8],
     run: &mut [u8],
 ) -> u32
-    ensures { Moved (run_refusal packed (length run.old)) variant back key.now run.old run.new result }
+    ensures { RowCiphered (run_refusal packed (length run.old)) variant (direction decipher) key.now run.old run.new result }
 {
-    boundary::run(variant, packed, back, key, run)
+    boundary::run(variant, packed, decipher, key, run)
 }
 
-/// Puts a row of any number of blocks through the engine, in runs of as many as it has lanes: there, or `back`.
+/// Enciphers each block of a row of any number of them, or deciphers each where `decipher` says so, as many at a time as the engine has lanes.
 #[unsafe(no_mangle)]
 pub extern "C" fn weddrul_row(
     variant: u32,
     packed: bool,
-    back: bool,
+    decipher: bool,
     key: &[u8],
     row: &mut [u8],
 ) -> u32
-    ensures { Moved (row_refusal (length row.old)) variant back key.now row.old row.new result }
+    ensures { RowCiphered (row_refusal (length row.old)) variant (direction decipher) key.now row.old row.new result }
 {
-    boundary::row(variant, packed, back, key, row)
+    boundary::row(variant, packed, decipher, key, row)
 }
 
 /// Seals a row of readings into a page and zeroes the rest, in CBC where `cbc` says so, else in ECB.
@@ -44,7 +45,7 @@ pub extern "C" fn weddrul_seal(
     readings: &[u8],
     page: &mut [u8],
 ) -> u32
-    ensures { PageSealed (record { variant = variant; mode = mode cbc; key = key.now; start = start.now }) readings.now page.old page.new result }
+    ensures { SealedByNumber (record { variant = variant; mode = mode cbc; key = key.now; start = start.now }) readings.now page.old page.new result }
 {
     boundary::seal(variant, packed, cbc, key, start, readings, page)
 }
@@ -61,7 +62,7 @@ pub extern "C" fn weddrul_open(
     n: usize,
     place: &mut [u8],
 ) -> u32
-    ensures { PageOpened (record { variant = variant; mode = mode cbc; key = key.now; start = start.now }) page.now n place.old place.new result }
+    ensures { OpenedByNumber (record { variant = variant; mode = mode cbc; key = key.now; start = start.now }) page.now n place.old place.new result }
 {
     boundary::open(variant, packed, cbc, key, start, page, n, place)
 }

@@ -14,8 +14,8 @@ returns g c =
     let xs = c.args.readings.now in
     let meant = scheme_of g.E.Engine g.M.Mode s in
     let ok = lawful_scheme g.E.Engine g.M.Mode s g.met.E.Engine.shape g.met.E.Engine.permutes g.met.M.Mode.rule (length_start _ _ s.start.bytes g.met.E.Engine.shape (search rules)) in
-    group_masked meant ok b n i _ w xs _ _ _ _ _ _
+    group_masked meant ok b n i _ w xs _ _ _ _ _ _ _
     c.requires.length (ap (λ k. take k s.start.bytes) c.requires.length) c.requires.before c.requires.readings
-    c.write_masks.ensures.first c.write_masks.ensures.last c.copy_from_slice.ensures.after c.add.ensures c.encipher_blocks.ensures c.add-2.ensures
+    c.write_masks.ensures.first c.write_masks.ensures.last c.copy_from_slice.ensures.after c.add.ensures c.whole_row.ensures c.add-2.ensures
     ∙ ap joined (sealed_at_once meant ok b n i w xs c.requires.length c.requires.one (bytes_from w (λ k. omega (arith, c.type_inv.before k)))
     (bytes_from xs (λ k. omega (arith, c.type_inv.readings k))) c.requires.before c.requires.readings)

@@ -1,12 +1,19 @@
 -- Blocks replaced one run after the other.
-use Rattle.std.proofs.Common.{◌≡◌, ℕ, zero, suc, ◌+◌, ◌-◌, ◌*◌, ◌/◌, ◌%◌, ◌<◌, ◌≤◌, false, List, ◌++◌, length, take, drop, refl, sym, ap, ◌∙◌, ⊎_elim, arith, append_assoc, length-append, length-drop}
-use Rattle.std.proofs.Math.Nat.{zero-mul, suc-mul, add-mul, mul-mod_left, mul-div_cancel}
+use Rattle.std.specs.Prelude.{Some, ◌==◌}
+use Rattle.std.proofs.Common.{◌≡◌, ℕ, zero, suc, ◌+◌, ◌-◌, ◌*◌, ◌/◌, ◌%◌, ◌<◌, ◌≤◌, false, true, List, [], ◌++◌, length, take, drop, refl, sym, ap, subst, ◌∙◌, ⊎_elim, arith, append_assoc, length-append, length-drop}
+use Rattle.std.proofs.Math.Nat.{zero-mul, suc-mul, add-mul, div-add-mod, mul-mod_left, mul-div_cancel}
 use Rattle.std.proofs.lemmas.Bool.Decides.{nat_tests}
-use Rattle.std.proofs.lemmas.List.{drop-drop, drop-take, length-take-le, take-take, take_at, drop_at}
+use Rattle.std.proofs.lemmas.List.{append-nil, drop_all, drop-drop, drop-take, length-take-le, take-take, take_at, drop_at}
 use Rattle.std.proofs.lemmas.Nat.{mul-le}
 use borrow.Rule.Slice.PartMut.{put_mid}
+use Rattle.ublock.specs.Laws.{Permutes}
 use Rattle.cipher.specs.Engines.{Answer, Shape, Ran, each, refused}
-use Rattle.modes.proofs.Rows.{drop_past}
+use Rattle.cipher.specs.Rows.{RowReplaced, in_direction}
+use Rattle.cipher.specs.declared.rows.Direction.{Direction}
+use Rattle.cipher.specs.declared.rows.Direction.TheVariants.{Encipher, Decipher}
+
+pub drop_past : (b i : ℕ) (xs : List ℕ) → drop (i * b) (drop b xs) ≡ drop (suc i * b) xs
+drop_past b i xs = drop-drop (i * b) b xs ∙ ap (λ m. drop m xs) (omega (arith, suc-mul i b))
 
 -- ---- one turn of a loop that replaces m blocks, the first of which is block i
 each_add : (b : ℕ) (f : List ℕ → List ℕ) (i m : ℕ) (xs : List ℕ) → each b f (i + m) xs ≡ each b f i xs ++ each b f m (drop (i * b) xs)
@@ -88,3 +95,32 @@ run_turn b size w f i m n was now piece answer e shape keeps le few long long_no
     let done = ran_blocks size w m f run piece answer shape few (turn_long b i m n now le long_now ∙ ap (λ k. m * k) e) ran in
     let long_f : (x : List ℕ) → length x ≡ b → length (f x) ≡ b = λ x l. keeps x (l ∙ e) ∙ sym e in
     (done.0, turn b f long_f i m was now piece (omega (arith, mul-le i b n b (omega arith) (omega arith))) is (done.1 ∙ ap (λ k. each k f m run) (sym e)))
+
+pub direction_keeps : (way : Direction) (b : ℕ) (enc dec : List ℕ → List ℕ) → Permutes b enc dec → (x : List ℕ) → length x ≡ b → length (in_direction way enc dec x) ≡ b
+direction_keeps Encipher b enc dec ok = ok.enc_long
+direction_keeps Decipher b enc dec ok = ok.dec_long
+
+pub whole_blocks : (b n : ℕ) → n % b ≡ 0 → n ≡ n / b * b
+whole_blocks b n whole = omega (arith, div-add-mod n b)
+
+-- a row whose blocks are all replaced
+pub row_done : (b size : ℕ) (f : List ℕ → List ℕ) (i : ℕ) (was now : List ℕ) → b ≡ size → length was % b ≡ 0 → i ≤ length was / b → length was / b ≤ i
+    → now ≡ each b f i was ++ drop (i * b) was → RowReplaced size f was now (record { value = Some tt; number = 0 })
+row_done b size f i was now e whole le ge is =
+    let n : i ≡ length was / b = omega arith in
+    let all : drop (i * b) was ≡ [] = drop_all (i * b) was (omega (arith, whole_blocks b (length was) whole, ap (λ k. k * b) n)) in
+    let fine : (length was % b == 0) ≡ true = grind (arith, nat_tests) in
+    subst (λ k. RowReplaced k f was now (record { value = Some tt; number = 0 })) e (record {
+      number = rw fine refl;
+      row = is ∙ ap (λ z. each b f i was ++ z) all ∙ append-nil (each b f i was) ∙ ap (λ k. each b f k was) n ∙ rw fine refl;
+    })
+
+-- a row of n blocks
+pub row_of_blocks : (b size n : ℕ) (f : List ℕ → List ℕ) (before after : List ℕ) (answer : Answer Unit) → b ≡ size → 0 < size → length before ≡ n * b
+    → RowReplaced size f before after answer → (answer.number ≡ 0) × (after ≡ each b f n before)
+row_of_blocks b size n f before after answer e pos long row =
+    let long_size : length before ≡ n * size = long ∙ ap (λ k. n * k) e in
+    let whole : length before % size ≡ 0 = ap (λ k. k % size) long_size ∙ mul-mod_left n size in
+    let fine : (length before % size == 0) ≡ true = grind (arith, nat_tests) in
+    let count : length before / size ≡ n = ap (λ k. k / size) long_size ∙ mul-div_cancel n pos in
+    (row.number ∙ rw fine refl, row.row ∙ rw fine (ap (λ k. each size f k before) count) ∙ ap (λ k. each k f n before) (sym e))
