@@ -2,7 +2,7 @@
 
 ghost use Rattle.std.specs.Prelude.{◌≡◌, ℕ, List};
 ghost use Rattle.ublock.specs.Laws.{Bytes};
-ghost use Rattle.schedule.proofs.KeyRows.{bytes_from};
+ghost use Rattle.ublock.proofs.Bytes.{bytes_from};
 
 use schedule::row::Row;
 

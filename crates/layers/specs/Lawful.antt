@@ -1,10 +1,10 @@
 -- A layer over an engine keeps the laws of an engine. These lemmas stand here since a law that an impl proves may cite no file
 -- of its crate but those of specs/.
-use Rattle.std.specs.Prelude.{◌≡◌, ℕ, ◌<◌, List, [], ◌∷◌, length, take, slice_index}
-use Rattle.std.proofs.Common.{ap, suc, ◌∙◌}
+use Rattle.std.specs.Prelude.{◌≡◌, ℕ, ◌<◌, List, length, take, slice_index}
+use Rattle.std.proofs.Common.{ap, ◌∙◌}
 use Rattle.ublock.specs.Cipher.{xor}
 use Rattle.ublock.specs.Laws.{Bytes, Block, Permutes}
-use Rattle.ublock.proofs.Bytes.{xor_twice, length-xor, block-xor, bytes-take}
+use Rattle.ublock.proofs.Bytes.{bytes_from, xor_twice, length-xor, block-xor, bytes-take}
 use Rattle.layers.specs.Layers.{whitened}
 
 -- ---- a permutation the other way round
@@ -19,10 +19,6 @@ inverse_permutes b enc dec p = record {
 }
 
 -- ---- between two values
-bytes_from : (xs : List ℕ) → ((k : ℕ) → slice_index xs k < 256) → Bytes xs
-bytes_from [] h = tt
-bytes_from (x ∷ xs) h = (h 0, bytes_from xs (λ k. h (suc k)))
-
 module _ (b : ℕ) (v w : List ℕ) (enc dec : List ℕ → List ℕ) (p : Permutes b enc dec) (bytes_v : Bytes v) (bytes_w : Bytes w) where
   whitened_long : (x : List ℕ) → length x ≡ b → length (whitened b v w enc x) ≡ b
   whitened_long x e = length-xor (enc (xor x (take b v))) (take b w) ∙ p.enc_long _ (length-xor x (take b v) ∙ e)

@@ -6,7 +6,7 @@ use Rattle.std.proofs.lemmas.Nat.{mul-le}
 use Rattle.std.proofs.lemmas.Simd.{Each1-weaker}
 use Rattle.ublock.specs.Cipher.{xor}
 use Rattle.ublock.specs.Laws.{Bytes, Block, Permutes}
-use Rattle.ublock.proofs.Bytes.{xor_twice, length-xor, block-xor, block-take, bytes-take, bytes-drop}
+use Rattle.ublock.proofs.Bytes.{bytes_from, xor_twice, length-xor, block-xor, block-take, bytes-take, bytes-drop}
 use Rattle.cipher.specs.Engines.{Shape}
 use Rattle.cipher.proofs.EngineRuns.{drop_past}
 use Rattle.cipher.specs.declared.engine.Engine as engines
@@ -16,10 +16,6 @@ use Rattle.modes.specs.Modes.{BlockLength, Rule}
 use Rattle.modes.specs.Sealing.{scheme_of, Scheme, Lawful, AllLong, AllBlocks, seal_block, open_block, sealed, along, opened, joined, blocks, last_block, previous}
 
 -- ---- bytes
-pub bytes_from : (xs : List ℕ) → ((k : ℕ) → get_or xs k 0 < 256) → Bytes xs
-bytes_from [] h = tt
-bytes_from (x ∷ xs) h = (h 0, bytes_from xs (λ k. h (suc k)))
-
 pub byte_at : (xs : List ℕ) → Bytes xs → (k : ℕ) → get_or xs k 0 < 256
 byte_at [] h k = omega arith
 byte_at (x ∷ xs) h zero = h.0

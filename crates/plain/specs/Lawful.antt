@@ -3,9 +3,8 @@
 use Rattle.std.proofs.Common.{ℕ, List, ap, inl, inr, ⊎_elim, arith}
 use Rattle.ublock.specs.Cipher.{Layout, block_length}
 use Rattle.ublock.specs.Laws.{Bytes}
-use Rattle.ublock.proofs.Bytes.{bounded-permute, bytes-append, bytes-take, bytes-drop}
+use Rattle.ublock.proofs.Bytes.{bounded-permute, bytes-append, bytes-drop, bytes-take, bytes_from}
 use Rattle.schedule.specs.declared.row.Row.{Row}
-use Rattle.schedule.proofs.KeyRows.{bytes_from}
 use Rattle.words.specs.Words.{words}
 use Rattle.words.proofs.Numbers.{words_bytes}
 use Rattle.plain.specs.Unpermuted.{row_of}

@@ -5,6 +5,7 @@ use Rattle.ublock.specs.Cipher.{RC, key_step, key_length, register}
 use Rattle.ublock.specs.Laws.{Bytes}
 use Rattle.ublock.specs.Variants.{parameters}
 use Rattle.ublock.specs.declared.variant.Variant.{Variant}
+use Rattle.ublock.proofs.Bytes.{bytes_from}
 use Rattle.ublock.proofs.KeySteps.{register_long}
 use Rattle.ublock.proofs.VariantFacts.{bounded}
 use Rattle.schedule.specs.Registers.{padded}
@@ -56,10 +57,6 @@ rows_past row (r ∷ rows) n (suc zero) l h = absurd (omega arith)
 rows_past row (r ∷ rows) n (suc (suc j)) l h = rows_past row rows n (suc j) (omega arith) (omega arith)
 
 -- each row is of bytes, whichever it is
-pub bytes_from : (xs : List ℕ) → ((k : ℕ) → get_or xs k 0 < 256) → Bytes xs
-bytes_from [] h = tt
-bytes_from (x ∷ xs) h = (h 0, bytes_from xs (λ k. h (suc k)))
-
 pub row_bytes : (rows : List Row) (j : ℕ) → Bytes (row_at rows j)
 row_bytes [] j = tt
 row_bytes (row ∷ rows) zero = bytes_from row.bytes row.of_bytes

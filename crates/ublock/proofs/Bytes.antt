@@ -8,6 +8,11 @@ use Rattle.ublock.specs.Cipher.{xor, rotate, permute}
 use Rattle.ublock.specs.Laws.{Bytes, Block, Undoes}
 use Rattle.ublock.proofs.Check.{both}
 
+-- ---- entry by entry
+pub bytes_from : (xs : List ℕ) → ((k : ℕ) → get_or xs k 0 < 256) → Bytes xs
+bytes_from [] h = tt
+bytes_from (x ∷ xs) h = (h 0, bytes_from xs (λ k. h (suc k)))
+
 -- ---- exclusive or
 bit_xor_twice : (a b : ℕ) → bit_xor (bit_xor a b) b ≡ a
 bit_xor_twice a b = xor_assoc a b b ∙ ap (bit_xor a) (xor_self b) ∙ xor_zero_r a

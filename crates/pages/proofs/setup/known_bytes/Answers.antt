@@ -1,5 +1,5 @@
 use Rattle.std.proofs.Common.{arith}
-use Rattle.modes.proofs.Rows.{bytes_from}
+use Rattle.ublock.proofs.Bytes.{bytes_from}
 use Rattle.pages.proofs.setup.known_bytes.Goals as goal
 
 pub returns : goal.returns

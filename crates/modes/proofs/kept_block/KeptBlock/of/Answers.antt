@@ -1,8 +1,8 @@
 use Rattle.std.proofs.Common.{◌<◌, length, sym, subst, arith}
 use Rattle.std.proofs.lemmas.Simd.{Each1-replicate}
 use Rattle.ublock.specs.Laws.{Bytes}
-use Rattle.ublock.proofs.Bytes.{bytes-append, bytes-drop}
-use Rattle.modes.proofs.Rows.{bytes_from, byte_at}
+use Rattle.ublock.proofs.Bytes.{bytes-append, bytes-drop, bytes_from}
+use Rattle.modes.proofs.Rows.{byte_at}
 use Rattle.modes.proofs.kept_block.KeptBlock.of.Goals as goal
 
 pub invariant_of-result : goal.invariant_of-result

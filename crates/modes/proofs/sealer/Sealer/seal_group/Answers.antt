@@ -1,6 +1,7 @@
 use Rattle.std.proofs.Common.{take, ap, ◌∙◌, rules, arith}
+use Rattle.ublock.proofs.Bytes.{bytes_from}
 use Rattle.modes.specs.Sealing.{joined, scheme_of}
-use Rattle.modes.proofs.Rows.{bytes_from, lawful_scheme, length_start}
+use Rattle.modes.proofs.Rows.{lawful_scheme, length_start}
 use Rattle.modes.proofs.Groups.{group_masked, sealed_at_once}
 use Rattle.modes.proofs.sealer.Sealer.seal_group.Goals as goal
 

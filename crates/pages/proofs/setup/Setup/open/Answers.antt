@@ -1,5 +1,5 @@
 use Rattle.std.proofs.Common.{arith}
-use Rattle.modes.proofs.Rows.{bytes_from}
+use Rattle.ublock.proofs.Bytes.{bytes_from}
 use Rattle.pages.specs.Calls.{terms}
 use Rattle.pages.proofs.Laws.{gives_back}
 use Rattle.pages.proofs.setup.Setup.open.Goals as goal
