@@ -4,8 +4,8 @@ use Rattle.ublock.specs.Cipher.{Layout, layout128, layout256}
 use Rattle.halves.specs.declared.Permutations.{Permutations}
 
 -- one of the two layouts that the cipher has
-abbrev pub Published : Layout → Type 0
-Published l = (l ≡ layout128) ⊎ (l ≡ layout256)
+abbrev pub IsUblockLayout : Layout → Type 0
+IsUblockLayout l = (l ≡ layout128) ⊎ (l ≡ layout256)
 
 -- the byte permutations of a layout
 pub record HasPermutations (l : Layout) (p : Permutations) : Type 0 where

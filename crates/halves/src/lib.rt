@@ -4,7 +4,7 @@
 
 ghost use Rattle.std.specs.Prelude.{◌≡◌, ◌*◌, length};
 ghost use Rattle.ublock.specs.Cipher.{Layout, block_length, layout128, layout256, permute, substitute};
-ghost use Rattle.halves.specs.Halves.{Published, HasPermutations};
+ghost use Rattle.halves.specs.Halves.{IsUblockLayout, HasPermutations};
 ghost use Rattle.std.proofs.Common.{refl, inl, inr};
 
 use ublock::tables::Substitution;
@@ -34,7 +34,7 @@ pub trait Half: Pieces {
     fn permutations() -> Permutations
         ensures { HasPermutations layout result };
 
-    ghost published: { Published layout };
+    ghost published: { IsUblockLayout layout };
 
     ghost sized: { layout.half ≡ Self.count * 4 };
 }

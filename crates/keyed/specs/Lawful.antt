@@ -5,11 +5,11 @@ use Rattle.ublock.specs.Cipher.{Layout, block_length}
 use Rattle.ublock.specs.Laws.{Bytes, Invertible}
 use Rattle.ublock.proofs.Bytes.{bytes-take}
 use Rattle.ublock.proofs.TableRules.{layouts_invertible}
-use Rattle.halves.specs.Halves.{Published}
-use Rattle.keyed.specs.Keyeds.{row_key}
+use Rattle.halves.specs.Halves.{IsUblockLayout}
+use Rattle.keyed.specs.RoundKeys.{row_key}
 
 -- both layouts have byte permutations with inverses
-pub invertible_of : (l : Layout) → Published l → Invertible l
+pub invertible_of : (l : Layout) → IsUblockLayout l → Invertible l
 invertible_of l = ⊎_elim (λ e. subst Invertible (sym e) layouts_invertible.0) (λ e. subst Invertible (sym e) layouts_invertible.1)
 
 row_bytes : {R : Type 0} (bytes : R → List ℕ) → ((row : R) → Bytes (bytes row)) → (rows : List R) (j : ℕ) → Bytes (slice_index_or (map bytes rows) j [])

@@ -1,3 +1,3 @@
 pub mod Lanes
-pub mod Keyeds
+pub mod RoundKeys
 pub mod Lawful

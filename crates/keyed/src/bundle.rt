@@ -3,7 +3,7 @@
 ghost use Rattle.std.specs.Prelude.{◌≡◌, ◌↔◌, ℕ, ◌<◌, ◌≤◌, ◌*◌, false, true, suc, List, take, length, IsSome, IfSome};
 ghost use Rattle.ublock.specs.Cipher.{Layout, block_length, round, inverse_round, xor};
 ghost use Rattle.cipher.specs.Engines.{Shape, refused};
-ghost use Rattle.halves.specs.Halves.{Published};
+ghost use Rattle.halves.specs.Halves.{IsUblockLayout};
 ghost use Rattle.ublock.specs.Parts.{part};
 ghost use Rattle.keyed.specs.Lanes.{EachLane};
 
@@ -53,7 +53,7 @@ pub trait Bundle<R: KeyRow>: Copy {
         ensures blocks { refused (block_length layout) lane_count (length run.old) ≡ false → (i : ℕ) → suc i * block_length layout ≤ length run.old → part (block_length layout) i run.new ≡ lane self i }
         ensures refused { refused (block_length layout) lane_count (length run.old) ≡ true → run.new ≡ run.old };
 
-    ghost published: { Published layout };
+    ghost published: { IsUblockLayout layout };
 
     ghost shaped: { Shape (block_length layout) lane_count };
 }

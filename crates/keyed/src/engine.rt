@@ -7,7 +7,7 @@ ghost use Rattle.cipher.specs.Engines.{Ran, engine_answer};
 ghost use Rattle.cipher.specs.Keys.{Filled, key_answer};
 ghost use Rattle.schedule.specs.Rows.{row_at};
 ghost use Rattle.keyed.specs.Lanes.{EachLane};
-ghost use Rattle.keyed.specs.Keyeds.{row_key, HoldRoundKeys, keyed_E, keyed_D};
+ghost use Rattle.keyed.specs.RoundKeys.{row_key, HoldRoundKeys, keyed_E, keyed_D};
 ghost use Rattle.keyed.specs.Lawful.{invertible_of, row_key_bytes};
 ghost use Rattle.ublock.proofs.Rounds.{cipher_permutes};
 
@@ -56,7 +56,7 @@ impl<R: KeyRow, B: Bundle<R>> Keyed<B, R> {
         Ok(())
     }
 
-    // Blocks after the first n rounds. Not inlined, so that what is compiled for the loop does not hang on the caller.
+    // Blocks after the first n rounds. Not inlined, so that what is compiled for the loop does not depend on the caller.
     #[inline(never)]
     fn rounds(&self, n: usize, bundle: B) -> B
         requires { n ≤ 24 }

@@ -5,7 +5,7 @@ ghost use Rattle.layers.specs.Lawful.{cascade_permutes};
 
 use cipher::engine::{Engine, EngineFault};
 
-/// The outer engine of the inner one. It holds what they hold, so it is not printed or compared by `==`.
+/// Enciphers by the inner engine, then by the outer one. It holds what they hold, so it is not printed or compared by `==`.
 #[derive(Clone, Copy)]
 pub struct Cascade<E> {
     outer: E,

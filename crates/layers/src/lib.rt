@@ -1,4 +1,4 @@
-//! Layers over an engine: each is an engine again, and so is any pile of them.
+//! Layers over an engine: each is an engine again, and so is any stack of them.
 
 #![tactic(auto)]
 

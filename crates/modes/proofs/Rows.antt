@@ -208,8 +208,8 @@ module _ (s : Scheme) (ok : Lawful s) where
   -- a mode that is not chained seals a block the same after any block
   seal_block_free : ok.chained ≡ false → (i : ℕ) (w u x : List ℕ) → Block s.size w → Block s.size u → seal_block s i w x ≡ seal_block s i u x
   seal_block_free free i w u x hw hu =
-      ap (λ a. xor (s.enc (xor x a)) (s.last s.start i w)) (ok.rule.first.free free s.start i w u ok.start hw hu)
-      ∙ ap (xor (s.enc (xor x (s.first s.start i u)))) (ok.rule.last.free free s.start i w u ok.start hw hu)
+      ap (λ a. xor (s.enc (xor x a)) (s.last s.start i w)) (ok.rule.first.same_for_each_before free s.start i w u ok.start hw hu)
+      ∙ ap (xor (s.enc (xor x (s.first s.start i u)))) (ok.rule.last.same_for_each_before free s.start i w u ok.start hw hu)
 
   -- so the blocks of the row of readings may stand for the sealed blocks before
   pub sealed_free : ok.chained ≡ false → (i : ℕ) (w u : List ℕ) (xs : List (List ℕ)) → Block s.size w → Block s.size u → AllBlocks s.size xs

@@ -14,7 +14,7 @@ pub zeros_rule : (b : ℕ) (chained : Bool) → MaskRule b (λ v i before. repli
 zeros_rule b chained = record {
   long = λ v i before lv lb. length-replicate (length v) 0 ∙ lv;
   block = λ v i before hv hb. record { long = length-replicate (length v) 0 ∙ hv.long; bytes = Each1-replicate (λ z. z < 256) (length v) 0 (omega arith) };
-  free = λ e v i before other hv hb ho. refl;
+  same_for_each_before = λ e v i before other hv hb ho. refl;
 }
 
 pub ecb_rule : (b : ℕ) → BlockLength b → Rule b (λ v i before. replicate (length v) 0) (λ v i before. replicate (length v) 0) false
@@ -22,7 +22,7 @@ ecb_rule b _ = record { first = zeros_rule b false; last = zeros_rule b false }
 
 pub cbc_rule : (b : ℕ) → BlockLength b → Rule b (λ v i before. before) (λ v i before. replicate (length v) 0) true
 cbc_rule b _ = record {
-  first = record { long = λ v i before lv lb. lb; block = λ v i before hv hb. hb; free = λ e. absurd (true≢false e) };
+  first = record { long = λ v i before lv lb. lb; block = λ v i before hv hb. hb; same_for_each_before = λ e. absurd (true≢false e) };
   last = zeros_rule b true;
 }
 

@@ -18,7 +18,7 @@ Mask = List ℕ → ℕ → List ℕ → List ℕ
 pub record MaskRule (b : ℕ) (mask : Mask) (chained : Bool) : Type 0 where
   pub long : (v : List ℕ) (i : ℕ) (before : List ℕ) → length v ≡ b → length before ≡ b → length (mask v i before) ≡ b
   pub block : (v : List ℕ) (i : ℕ) (before : List ℕ) → Block b v → Block b before → Block b (mask v i before)
-  pub free : chained ≡ false → (v : List ℕ) (i : ℕ) (before other : List ℕ) → Block b v → Block b before → Block b other → mask v i before ≡ mask v i other
+  pub same_for_each_before : chained ≡ false → (v : List ℕ) (i : ℕ) (before other : List ℕ) → Block b v → Block b before → Block b other → mask v i before ≡ mask v i other
 
 pub record Rule (b : ℕ) (f l : Mask) (chained : Bool) : Type 0 where
   pub first : MaskRule b f chained

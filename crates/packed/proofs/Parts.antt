@@ -4,7 +4,7 @@ use Rattle.std.proofs.Common.{sym, ap, ◌∙◌, inl, inr, arith}
 use Rattle.std.proofs.lemmas.List.{drop-take, take-take}
 use Rattle.ublock.specs.Cipher.{Layout, block_length, xor}
 use Rattle.ublock.proofs.Bytes.{xor-append}
-use Rattle.halves.specs.Halves.{Published}
+use Rattle.halves.specs.Halves.{IsUblockLayout}
 use Rattle.ublock.specs.Parts.{part}
 use Rattle.vectors.proofs.Parts.{length-part, part-xor}
 
@@ -20,7 +20,7 @@ part_of_padded m i run bytes h few e =
     sym (part-take m i (min (length run) 64) bytes (omega arith)) ∙ ap (part m i) e ∙ part-take m i 64 run (omega arith)
 
 -- a block within 64 bytes has a lane
-pub lane_of_block : (l : Layout) (lanes i n : ℕ) → Published l → lanes * l.half ≡ 32 → suc i * block_length l ≤ n → n ≤ 64 → i < lanes
+pub lane_of_block : (l : Layout) (lanes i n : ℕ) → IsUblockLayout l → lanes * l.half ≡ 32 → suc i * block_length l ≤ n → n ≤ 64 → i < lanes
 lane_of_block l lanes i n (inl e) filled h few = omega (arith, rw e at filled, rw e at h)
 lane_of_block l lanes i n (inr e) filled h few = omega (arith, rw e at filled, rw e at h)
 

@@ -4,10 +4,10 @@ use Rattle.std.specs.Prelude.{◌≡◌, ℕ, ◌*◌}
 use Rattle.std.proofs.Common.{ap, inl, inr, ⊎_elim, arith}
 use Rattle.ublock.specs.Cipher.{Layout, block_length}
 use Rattle.cipher.specs.Engines.{Shape}
-use Rattle.halves.specs.Halves.{Published}
+use Rattle.halves.specs.Halves.{IsUblockLayout}
 
 -- with as many lanes as halves fill a vector
-pub lanes_shape : (l : Layout) (n : ℕ) → Published l → n * l.half ≡ 32 → Shape (block_length l) n
+pub lanes_shape : (l : Layout) (n : ℕ) → IsUblockLayout l → n * l.half ≡ 32 → Shape (block_length l) n
 lanes_shape l n p e = record {
   length_of_block = ⊎_elim (λ q. inl (ap block_length q)) (λ q. inr (ap block_length q)) p;
   one_lane = ⊎_elim (λ q. let h = ap (λ (k : Layout). n * k.half) q in omega arith) (λ q. let h = ap (λ (k : Layout). n * k.half) q in omega arith) p;

@@ -1,4 +1,4 @@
--- A round undone in two halves, and rounds undone one after the other.
+-- A round undone in two halves.
 use Rattle.std.specs.Prelude.{◌≡◌, ℕ, List, ◌++◌, length}
 use Rattle.std.proofs.Common.{sym, ap, ◌∙◌}
 use Rattle.ublock.specs.Cipher.{Layout, Halves, S_inverse, substitute, xor, permute, mixing, unmixed, joined, permuted, inverse_round}

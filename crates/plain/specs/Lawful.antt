@@ -9,10 +9,10 @@ use Rattle.words.specs.Words.{words}
 use Rattle.words.proofs.Numbers.{words_bytes}
 use Rattle.plain.specs.Unpermuted.{row_of}
 use Rattle.cipher.specs.Engines.{Shape}
-use Rattle.halves.specs.Halves.{Published}
+use Rattle.halves.specs.Halves.{IsUblockLayout}
 
 -- both block lengths are an engine's, with one lane
-pub one_lane_shape : (l : Layout) → Published l → Shape (block_length l) 1
+pub one_lane_shape : (l : Layout) → IsUblockLayout l → Shape (block_length l) 1
 one_lane_shape l p = record {
   length_of_block = ⊎_elim (λ e. inl (ap block_length e)) (λ e. inr (ap block_length e)) p;
   one_lane = omega arith;

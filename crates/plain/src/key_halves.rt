@@ -60,7 +60,7 @@ fn first<H: Half>(numbers: &[u32; 8]) -> Pair<H>
     Pair::from_numbers(&numbers[..H::block_len() / 4]).unwrap()
 }
 
-// Numbers of which the first are these halves.
+// Eight numbers that begin with those of the halves.
 fn numbers_of<H: Half>(halves: Pair<H>) -> [u32; 8]
     ensures { take (block_length H.layout) (words result) ≡ pair_bytes H.bytes halves }
 {

@@ -9,7 +9,7 @@ use Rattle.std.proofs.Math.Nat.{mod-mod, mod-eq_of_lt, pow-le-pow_right}
 use Rattle.ublock.specs.Cipher.{S, S_inverse, on_nibbles}
 use Rattle.ublock.proofs.Check.{all, both, agree}
 use Rattle.vectors.specs.Vectors.{word64}
-use Rattle.vectors.specs.Circuits.{Operation, Gate, Step, apply, value, run, run64, Through, exchange, half, half_back}
+use Rattle.vectors.specs.Circuits.{Operation, Gate, Step, apply, value, run, run64, Through, exchange, two_gates, two_gates_reversed}
 use Rattle.vectors.specs.Circuits.Operation.{and, or, xor}
 use Rattle.vectors.specs.Circuits.Gate.{first, second, mask, up, down, on_both}
 use Rattle.vectors.specs.Circuits.Step.{step}
@@ -199,27 +199,27 @@ turned (u ∷ us) (v ∷ vs) l =
 
 -- ---- S and its inverse
 abbrev pub forward : List Step
-forward = exchange ++ (half ++ (turn ++ (half ++ (turn ++ exchange))))
+forward = exchange ++ (two_gates ++ (turn ++ (two_gates ++ (turn ++ exchange))))
 
 abbrev pub backward : List Step
-backward = exchange ++ (turn ++ (half_back ++ (turn ++ (half_back ++ exchange))))
+backward = exchange ++ (turn ++ (two_gates_reversed ++ (turn ++ (two_gates_reversed ++ exchange))))
 
 -- what the functions do one after the other
-pub forward_through : (us vs a b c d e f us' vs' : List ℕ) → length c ≡ length d → length e ≡ length f → Through exchange us vs a b → Through half a b c d → Through half d c f e
+pub forward_through : (us vs a b c d e f us' vs' : List ℕ) → length c ≡ length d → length e ≡ length f → Through exchange us vs a b → Through two_gates a b c d → Through two_gates d c f e
     → Through exchange e f us' vs' → Through forward us vs us' vs'
 forward_through us vs a b c d e f us' vs' l m p q r s =
     let last = turn ++ exchange in
-    let second_half = half ++ last in
-    through-append exchange (half ++ (turn ++ second_half)) _ _ _ _ _ _ p (through-append half (turn ++ second_half) _ _ _ _ _ _ q
-    (through-append turn second_half _ _ _ _ _ _ (turned c d l) (through-append half last _ _ _ _ _ _ r (through-append turn exchange _ _ _ _ _ _ (turned f e (sym m)) s))))
+    let second_half = two_gates ++ last in
+    through-append exchange (two_gates ++ (turn ++ second_half)) _ _ _ _ _ _ p (through-append two_gates (turn ++ second_half) _ _ _ _ _ _ q
+    (through-append turn second_half _ _ _ _ _ _ (turned c d l) (through-append two_gates last _ _ _ _ _ _ r (through-append turn exchange _ _ _ _ _ _ (turned f e (sym m)) s))))
 
-pub backward_through : (us vs a b c d e f us' vs' : List ℕ) → length a ≡ length b → length c ≡ length d → Through exchange us vs a b → Through half_back b a d c → Through half_back c d e f
+pub backward_through : (us vs a b c d e f us' vs' : List ℕ) → length a ≡ length b → length c ≡ length d → Through exchange us vs a b → Through two_gates_reversed b a d c → Through two_gates_reversed c d e f
     → Through exchange e f us' vs' → Through backward us vs us' vs'
 backward_through us vs a b c d e f us' vs' l m p q r s =
-    let last = half_back ++ exchange in
-    let second_half = half_back ++ (turn ++ last) in
+    let last = two_gates_reversed ++ exchange in
+    let second_half = two_gates_reversed ++ (turn ++ last) in
     through-append exchange (turn ++ second_half) _ _ _ _ _ _ p (through-append turn second_half _ _ _ _ _ _ (turned a b l)
-    (through-append half_back (turn ++ last) _ _ _ _ _ _ q (through-append turn last _ _ _ _ _ _ (turned d c (sym m)) (through-append half_back exchange _ _ _ _ _ _ r s))))
+    (through-append two_gates_reversed (turn ++ last) _ _ _ _ _ _ q (through-append turn last _ _ _ _ _ _ (turned d c (sym m)) (through-append two_gates_reversed exchange _ _ _ _ _ _ r s))))
 
 pub forward_first : (u v : ℕ) → word64 (run64 first forward u v) ≡ map (on_nibbles S) (word64 u)
 forward_first u v =

@@ -11,7 +11,7 @@ use Rattle.ublock.specs.Cipher.Step.{into_right, into_left}
 use Rattle.ublock.proofs.Check.{both}
 use Rattle.ublock.proofs.Rounds.{round_of, inverse_round_of}
 use Rattle.words.specs.Words.{halves}
-use Rattle.halves.specs.Halves.{Published}
+use Rattle.halves.specs.Halves.{IsUblockLayout}
 use Rattle.ublock.specs.Parts.{part}
 use Rattle.vectors.specs.Vectors.{InLanes}
 
@@ -109,7 +109,7 @@ pub part-permute : (m i : ℕ) (ps ks xs : List ℕ) → T (all_below m ks) → 
 part-permute m i ps ks xs t e = part-map m i (λ k. get_or xs k 0) ps ∙ ap (λ qs. permute qs xs) e ∙ sym (permute-part m i ks xs t)
 
 -- ---- a round of every part, of which there are `count`
-pub published_mixing : (l : Layout) → Published l → l.mixing ≡ mixing
+pub published_mixing : (l : Layout) → IsUblockLayout l → l.mixing ≡ mixing
 published_mixing l (inl e) = ap (λ (k : Layout). k.mixing) e
 published_mixing l (inr e) = ap (λ (k : Layout). k.mixing) e
 

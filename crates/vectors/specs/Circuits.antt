@@ -64,8 +64,8 @@ even_bits = step (on_both xor first (on_both xor (on_both and second (down 1 5 s
 abbrev odd_bits : Step
 odd_bits = step first (on_both xor second (on_both or (on_both and first (mask 10)) (up 1 10 second)))
 
-abbrev pub half : List Step
-half = even_bits ∷ odd_bits ∷ []
+abbrev pub two_gates : List Step
+two_gates = even_bits ∷ odd_bits ∷ []
 
-abbrev pub half_back : List Step
-half_back = odd_bits ∷ even_bits ∷ []
+abbrev pub two_gates_reversed : List Step
+two_gates_reversed = odd_bits ∷ even_bits ∷ []

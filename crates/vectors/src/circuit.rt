@@ -1,12 +1,13 @@
 //! The substitution S and its inverse on every nibble of two vectors, by operations on whole words.
 //!
-//! First the upper two bits of the one's nibbles change places with the lower two of the other's: then `low` has bits 0 and 1 of
-//! both, `high` has bits 2 and 3, and each operation serves both.
+//! First the upper two bits of one vector's nibbles change places with the lower two of the other's: then `low` has bits 0 and 1 of
+//! both, `high` has bits 2 and 3, and each operation serves both. Each step takes its vectors apart into words and makes them of these again,
+//! so that a proof sees the words; that costs no instruction.
 
 ghost use Rattle.std.specs.Prelude.{◌≡◌};
 ghost use Rattle.ublock.specs.Cipher.{S, S_inverse, substitute};
 ghost use Rattle.vectors.specs.Vectors.{vector_bytes};
-ghost use Rattle.vectors.specs.Circuits.{Through, exchange, half, half_back};
+ghost use Rattle.vectors.specs.Circuits.{Through, exchange, two_gates, two_gates_reversed};
 
 use std::simd::prelude::*;
 use std::simd::u64x4;
@@ -26,8 +27,8 @@ pub fn substitute(left: u64x4, right: u64x4) -> (u64x4, u64x4)
     ensures right { vector_bytes result.1 ≡ substitute S (vector_bytes right) }
 {
     let (low, high) = exchanged(left, right);
-    let (low, high) = half(low, high);
-    let (high, low) = half(high, low);
+    let (low, high) = two_gates(low, high);
+    let (high, low) = two_gates(high, low);
     exchanged(low, high)
 }
 
@@ -37,12 +38,12 @@ pub fn unsubstitute(left: u64x4, right: u64x4) -> (u64x4, u64x4)
     ensures right { vector_bytes result.1 ≡ substitute S_inverse (vector_bytes right) }
 {
     let (low, high) = exchanged(left, right);
-    let (high, low) = half_back(high, low);
-    let (low, high) = half_back(low, high);
+    let (high, low) = two_gates_reversed(high, low);
+    let (low, high) = two_gates_reversed(low, high);
     exchanged(low, high)
 }
 
-// The upper two bits of the one's nibbles and the lower two of the other's, each in the place of the others.
+// The upper two bits of one vector's nibbles and the lower two of the other's, each in the place of the others.
 fn exchanged(one: u64x4, other: u64x4) -> (u64x4, u64x4)
     ensures { Through exchange one other result.0 result.1 }
 {
@@ -58,8 +59,8 @@ fn exchanged(one: u64x4, other: u64x4) -> (u64x4, u64x4)
 
 // Bit 0 takes not (bit 2 and bit 3), then bit 3 takes bit 1 or bit 2. With `high` and `low` turned about: bit 2 takes not (bit 0
 // and bit 1), then bit 1 takes bit 0 or bit 3.
-fn half(one: u64x4, other: u64x4) -> (u64x4, u64x4)
-    ensures { Through half one other result.0 result.1 }
+fn two_gates(one: u64x4, other: u64x4) -> (u64x4, u64x4)
+    ensures { Through two_gates one other result.0 result.1 }
 {
     let x = one.to_array();
     let y = other.to_array();
@@ -72,9 +73,9 @@ fn half(one: u64x4, other: u64x4) -> (u64x4, u64x4)
     (x, y)
 }
 
-// The two before `half`: the same steps, the last first.
-fn half_back(one: u64x4, other: u64x4) -> (u64x4, u64x4)
-    ensures { Through half_back one other result.0 result.1 }
+// Both vectors as they were before `two_gates`: the same steps, the last first.
+fn two_gates_reversed(one: u64x4, other: u64x4) -> (u64x4, u64x4)
+    ensures { Through two_gates_reversed one other result.0 result.1 }
 {
     let x = one.to_array();
     let y = other.to_array();

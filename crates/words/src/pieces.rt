@@ -26,7 +26,7 @@ pub trait Pieces: Copy {
         ensures fits { IsSome result ↔ (length places.now ≡ count * 4) }
         ensures value { IfSome result (λ x. bytes x ≡ substitute T.nibbles (permute places.now row.now)) };
 
-    /// The pieces of these bytes, where there are as many as they hold.
+    /// The pieces that these bytes are; none where there are more or fewer bytes.
     fn read(row: &[u8]) -> Option<Self>
         ensures fits { IsSome result ↔ (length row.now ≡ count * 4) }
         ensures value { IfSome result (λ x. bytes x ≡ row.now) };

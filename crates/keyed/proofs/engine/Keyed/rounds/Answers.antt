@@ -1,7 +1,7 @@
 use Rattle.std.proofs.Common.{◌≡◌, ◌≤◌, length, take, sym, ap, ◌∙◌, add-one, arith, rules}
 use Rattle.std.proofs.lemmas.List.{length-take-le}
 use Rattle.ublock.specs.Cipher.{round, rounds, block_length}
-use Rattle.keyed.specs.Keyeds.{row_key}
+use Rattle.keyed.specs.RoundKeys.{row_key}
 use Rattle.keyed.proofs.RowFacts.{row_from_front}
 use Rattle.keyed.proofs.engine.Keyed.rounds.Goals as goal
 

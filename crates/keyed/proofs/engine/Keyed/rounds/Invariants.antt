@@ -1,7 +1,7 @@
 use Rattle.std.proofs.Common.{◌≡◌}
 use Rattle.ublock.specs.Cipher.{rounds}
 use Rattle.keyed.specs.Lanes.{EachLane}
-use Rattle.keyed.specs.Keyeds.{row_key}
+use Rattle.keyed.specs.RoundKeys.{row_key}
 use Rattle.keyed.proofs.engine.Keyed.rounds.Given as goal
 
 -- as many rounds as keys so far

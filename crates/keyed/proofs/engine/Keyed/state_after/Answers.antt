@@ -2,7 +2,7 @@ use Rattle.std.proofs.Common.{◌≡◌, false, length, min, ap, ◌∙◌, rule
 use Rattle.ublock.specs.Cipher.{block_length, rounds}
 use Rattle.ublock.specs.Variants.{parameters}
 use Rattle.cipher.specs.Engines.{refused}
-use Rattle.keyed.specs.Keyeds.{row_key}
+use Rattle.keyed.specs.RoundKeys.{row_key}
 use Rattle.keyed.proofs.Runs.{ran_lanes}
 use Rattle.keyed.proofs.engine.Keyed.state_after.Goals as goal
 

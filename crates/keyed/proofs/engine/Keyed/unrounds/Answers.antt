@@ -3,7 +3,7 @@ use Rattle.std.proofs.lemmas.Iterator.Adapters.{YieldsList-from_rev_slice}
 use Rattle.std.proofs.lemmas.Iterator.Consumers.{YieldsList-turn}
 use Rattle.std.proofs.lemmas.List.{length_push, length-reverse, length-take-le}
 use Rattle.ublock.specs.Cipher.{inverse_round, inverse_rounds, block_length}
-use Rattle.keyed.specs.Keyeds.{row_key}
+use Rattle.keyed.specs.RoundKeys.{row_key}
 use Rattle.keyed.proofs.RoundFacts.{undone_more}
 use Rattle.keyed.proofs.RowFacts.{row_from_back}
 use Rattle.keyed.proofs.engine.Keyed.unrounds.Goals as goal

@@ -1,7 +1,7 @@
 use Rattle.std.proofs.Common.{◌≡◌, ◌-◌, length}
 use Rattle.ublock.specs.Cipher.{inverse_rounds}
 use Rattle.keyed.specs.Lanes.{EachLane}
-use Rattle.keyed.specs.Keyeds.{row_key}
+use Rattle.keyed.specs.RoundKeys.{row_key}
 use Rattle.keyed.proofs.engine.Keyed.unrounds.Given as goal
 
 -- the rounds that are left to undo

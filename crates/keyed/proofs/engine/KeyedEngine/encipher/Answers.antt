@@ -1,7 +1,7 @@
 use Rattle.std.proofs.Common.{◌≡◌, false, length, rules}
 use Rattle.ublock.specs.Cipher.{block_length}
 use Rattle.cipher.specs.Engines.{refused}
-use Rattle.keyed.specs.Keyeds.{keyed_E}
+use Rattle.keyed.specs.RoundKeys.{keyed_E}
 use Rattle.keyed.proofs.Runs.{ran_lanes}
 use Rattle.keyed.proofs.engine.KeyedEngine.encipher.Goals as goal
 
