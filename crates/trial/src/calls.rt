@@ -6,7 +6,7 @@ use std::alloc::Global;
 /// The blocks that a page has.
 pub(crate) const BLOCKS: usize = 5;
 
-/// Eight readings of b bytes, each another.
+/// Eight different readings of b bytes.
 pub(crate) fn readings(heap: Global, b: usize) -> anyhow::Result<Vec<u8>> {
     let mut all = Vec::new(heap);
     for reading in 0..8u8 {

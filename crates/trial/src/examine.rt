@@ -2,9 +2,9 @@
 
 use crate::lineup::{Lineup, Tally, different, equal, repeated, through};
 use crate::logs::play_logs;
-use crate::pile::pile;
 use crate::published::Example;
-use crate::sheets::seal_sheets;
+use crate::stack::stack;
+use crate::standard_pages::seal_standard_pages;
 use cipher::engine::{Engine, KeyFault};
 use engines::fill_both;
 use keyed::bundle::Bundle;
@@ -195,22 +195,22 @@ pub(crate) fn examine<H: Arrangement>(
     let some = different(rt.alloc(), &plain, block, packed.lanes())?;
     let of_plain = examine_engine(rt, "plain", &plain, example, &one)?;
     let of_packed = examine_engine(rt, "packed", &packed, example, &some)?;
-    let through_layers = examine_piles(rt, plain, packed, example)?;
-    let sheets = seal_sheets(rt, example)?;
+    let through_layers = examine_stacks(rt, plain, packed, example)?;
+    let pages_are_standard = seal_standard_pages(rt, example)?;
     let logs = play_logs(rt, plain, packed, example)?;
-    Ok(listed && of_plain && of_packed && through_layers && sheets && logs)
+    Ok(listed && of_plain && of_packed && through_layers && pages_are_standard && logs)
 }
 
-// The same with a pile of layers over each engine.
-fn examine_piles<E: Engine + Copy, F: Engine + Copy>(
+// The same with a stack of layers over each engine.
+fn examine_stacks<E: Engine + Copy, F: Engine + Copy>(
     rt: &HostRuntime,
     plain: E,
     packed: F,
     example: &Example,
 ) -> anyhow::Result<bool> {
     let block = example.plain.as_slice();
-    let over_plain = pile(plain, block, example.cipher.as_slice())?;
-    let over_packed = pile(packed, block, example.cipher.as_slice())?;
+    let over_plain = stack(plain, block, example.cipher.as_slice())?;
+    let over_packed = stack(packed, block, example.cipher.as_slice())?;
     println!(rt; "  four layers over the plain engine")?;
     let one = different(rt.alloc(), &over_plain, block, over_plain.lanes())?;
     let of_plain = side_by_side(rt, &over_plain, example, &one)?;

@@ -82,13 +82,13 @@ pub(crate) fn through<E: Engine>(
     for (block, image) in lineup.blocks.iter().zip(lineup.images.iter()) {
         run.extend_from_slice(block.as_slice())?;
         images.extend_from_slice(image.as_slice())?;
-        tally = each_turn(heap, engine, run.as_slice(), images.as_slice(), tally)?;
+        tally = each_rotation(heap, engine, run.as_slice(), images.as_slice(), tally)?;
     }
     Ok(tally)
 }
 
-// The run, and it turned by one block, by two, and so on.
-fn each_turn<E: Engine>(
+// The run rotated by no block, by one, by two, and so on.
+fn each_rotation<E: Engine>(
     heap: Global,
     engine: &E,
     run: &[u8],
@@ -98,13 +98,13 @@ fn each_turn<E: Engine>(
     let len = engine.block_len().max(1);
     let mut tally = tally;
     for (i, _) in run.chunks_exact(len).enumerate() {
-        let turned_run = turned(heap, run, i.saturating_mul(len))?;
-        let turned_images = turned(heap, images, i.saturating_mul(len))?;
+        let rotated_run = rotated(heap, run, i.saturating_mul(len))?;
+        let rotated_images = rotated(heap, images, i.saturating_mul(len))?;
         tally = tally.note(there_and_back(
             heap,
             engine,
-            turned_run.as_slice(),
-            turned_images.as_slice(),
+            rotated_run.as_slice(),
+            rotated_images.as_slice(),
         )?);
     }
     Ok(tally)
@@ -125,7 +125,7 @@ fn there_and_back<E: Engine>(
 }
 
 // What stands after a place, and then what stands before it.
-fn turned(heap: Global, bytes: &[u8], at: usize) -> anyhow::Result<Vec<u8>> {
+fn rotated(heap: Global, bytes: &[u8], at: usize) -> anyhow::Result<Vec<u8>> {
     let (before, after) = bytes.split_at(at.min(bytes.len()));
     let mut all = after.to_vec(heap)?;
     all.extend_from_slice(before)?;

@@ -1,8 +1,8 @@
 //! One log on a recorder and on a bench.
 
 use crate::calls::{BLOCKS, calls, filled, parting, readings, standing};
-use crate::pile::pile;
 use crate::published::Example;
+use crate::stack::stack;
 use agreement::agree::{Machine, Report, agree};
 use agreement::play::{Call, Turn};
 use beatlog::common::common;
@@ -31,8 +31,8 @@ pub(crate) fn play_logs<E: Engine + Copy, F: Engine + Copy>(
     example: &Example,
 ) -> anyhow::Result<bool> {
     let (block, image) = (example.plain.as_slice(), example.cipher.as_slice());
-    let over_plain = pile(plain, block, image)?;
-    let over_packed = pile(packed, block, image)?;
+    let over_plain = stack(plain, block, image)?;
+    let over_packed = stack(packed, block, image)?;
     let mut good = true;
     for mode in [StandardMode::Ecb, StandardMode::Cbc] {
         let name = mode_name(mode);

@@ -8,11 +8,11 @@ mod calls;
 mod examine;
 mod lineup;
 mod logs;
-mod pile;
-#[cfg(test)]
-mod piles;
 mod published;
-mod sheets;
+mod stack;
+#[cfg(test)]
+mod stacks;
+mod standard_pages;
 
 use anyhow::anyhow;
 use examine::examine;

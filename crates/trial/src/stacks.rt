@@ -56,9 +56,9 @@ fn cascade(rt: HostRuntime) -> anyhow::Result<()> {
     let engine = Plain::<Narrow>::fill(1, &KEY)?;
     let inner = Whitening::new(engine, [0; 32], BACK);
     let outer = Whitening::new(engine, [0; 32], [0; 32]);
-    let pile = Cascade::new(outer, inner);
+    let stack = Cascade::new(outer, inner);
     assert_eq!(rt;
-        there_and_back(&pile, PLAINTEXT),
+        there_and_back(&stack, PLAINTEXT),
         Some((CIPHERTEXT, PLAINTEXT))
     );
     Ok(())

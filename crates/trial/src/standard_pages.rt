@@ -9,7 +9,7 @@ use std::alloc::Global;
 /// Seals a page by either engine in both modes and opens each by the other engine. Prints what came out, and says whether it is as it
 /// should be: both engines make the same page, in ECB the published plaintext becomes the published ciphertext, and every
 /// reading comes back.
-pub(crate) fn seal_sheets(rt: &HostRuntime, example: &Example) -> anyhow::Result<bool> {
+pub(crate) fn seal_standard_pages(rt: &HostRuntime, example: &Example) -> anyhow::Result<bool> {
     let mut good = true;
     for mode in [StandardMode::Ecb, StandardMode::Cbc] {
         good = seal_sheet(rt, example, mode)? && good;

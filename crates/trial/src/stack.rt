@@ -5,24 +5,24 @@ use layers::cascade::Cascade;
 use layers::whitening::Whitening;
 
 /// Four layers: two engines in turn, values around them, two of that in turn, and values around all.
-pub(crate) type Pile<E> = Whitening<Cascade<Whitening<Cascade<E>>>>;
+pub(crate) type LayerStack<E> = Whitening<Cascade<Whitening<Cascade<E>>>>;
 
-// A value that each layer takes away again which the next one adds.
-const VEIL: [u8; 32] = [0x0f; 32];
+// What one layer adds, another adds again: it cancels.
+const MASK: [u8; 32] = [0x0f; 32];
 
-/// The pile that enciphers one block to what the engine does: its inner part takes the block to itself and its outer part
+/// The stack that enciphers one block to what the engine does: its inner part takes the block to itself and its outer part
 /// to the image, whatever the two engines in turn make of it.
-pub(crate) fn pile<E: Engine + Copy>(
+pub(crate) fn stack<E: Engine + Copy>(
     engine: E,
     block: &[u8],
     image: &[u8],
-) -> Result<Pile<E>, EngineFault> {
+) -> Result<LayerStack<E>, EngineFault> {
     let pair = Cascade::new(engine, engine);
     let mut twice = value(block);
     pair.encipher(&mut twice[..block.len().min(32)])?;
-    let inner = Whitening::new(pair, VEIL, sum(&twice, &value(block)));
-    let outer = Whitening::new(pair, [0; 32], sum(&sum(&twice, &value(image)), &VEIL));
-    Ok(Whitening::new(Cascade::new(outer, inner), VEIL, VEIL))
+    let inner = Whitening::new(pair, MASK, sum(&twice, &value(block)));
+    let outer = Whitening::new(pair, [0; 32], sum(&sum(&twice, &value(image)), &MASK));
+    Ok(Whitening::new(Cascade::new(outer, inner), MASK, MASK))
 }
 
 // Bytes at the front of a fixed value, and zeros after them.
