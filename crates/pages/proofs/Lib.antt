@@ -4,3 +4,4 @@ pub mod Equations
 pub mod Numbers
 mod Calls
 mod Laws
+mod Examples

@@ -7,6 +7,7 @@ ghost use Rattle.ublock.specs.Variants.{numbered};
 ghost use Rattle.cipher.specs.Keys.{Filled, key_answer};
 ghost use Rattle.beatlog.specs.Faults.{log_answer};
 ghost use Rattle.pages.specs.Calls.{GivesBack, OnePage, OpenedPage, SealedPage, block_len_answer, size, terms};
+ghost use Rattle.pages.specs.Examples.{PagesAsWorked};
 
 use beatlog::fault::LogFault;
 use beatlog::pages;
@@ -42,9 +43,11 @@ pub struct Setup<'a> {
 
 impl<'a> Setup<'a> {
     /// Seals a row of readings into a page and zeroes the rest. The answer is how many readings it sealed.
+    #[tactic(auto, using(crate::proofs::Examples::pages_as_worked))]
     pub fn seal(&self, readings: &[u8], page: &mut [u8]) -> Result<usize, LogFault>
         ensures call { SealedPage (terms self.now) readings.now page.old page.new (log_answer result) }
         ensures one_page { OnePage (terms self.now) readings.now page.new (log_answer result) }
+        ensures as_worked { PagesAsWorked }
     {
         if block_len(self.variant)? == 16 {
             self.seal_halves::<Narrow>(readings, page)
