@@ -33,14 +33,14 @@ each_take b f (suc m) xs =
     ∙ ap (λ z. f z ++ each b f m (drop b (take (b + m * b) xs))) (take-take b (b + m * b) xs (omega arith))
     ∙ ap (λ z. f (take b xs) ++ each b f m z) (drop-take b (m * b) xs) ∙ ap (λ z. f (take b xs) ++ z) (each_take b f m (drop b xs))
 
-length_each : (b : ℕ) (f : List ℕ → List ℕ) → ((x : List ℕ) → length x ≡ b → length (f x) ≡ b) → (n : ℕ) (xs : List ℕ) → n * b ≤ length xs → length (each b f n xs) ≡ n * b
+pub length-each : (b : ℕ) (f : List ℕ → List ℕ) → ((x : List ℕ) → length x ≡ b → length (f x) ≡ b) → (n : ℕ) (xs : List ℕ) → n * b ≤ length xs → length (each b f n xs) ≡ n * b
 unfolding each
-length_each b f keeps zero xs h = sym (zero-mul b)
-length_each b f keeps (suc n) xs h = omega (
+length-each b f keeps zero xs h = sym (zero-mul b)
+length-each b f keeps (suc n) xs h = omega (
   arith,
   length-append (f (take b xs)) (each b f n (drop b xs)),
   keeps (take b xs) (length-take-le b xs (omega (arith, suc-mul n b))),
-  length_each b f keeps n (drop b xs) (omega (arith, suc-mul n b, length-drop b xs)),
+  length-each b f keeps n (drop b xs) (omega (arith, suc-mul n b, length-drop b xs)),
   suc-mul n b,
 )
 
@@ -52,7 +52,7 @@ turn b f keeps i m was now piece room is new =
     let k : (i + m) * b - i * b ≡ m * b = omega arith in
     let front = each b f i was in
     let rest = drop (i * b) was in
-    let lf : length front ≡ i * b = length_each b f keeps i was room in
+    let lf : length front ≡ i * b = length-each b f keeps i was room in
     let past : drop (m * b) rest ≡ drop ((i + m) * b) was = drop-drop (m * b) (i * b) was ∙ ap (λ n. drop n was) (sym all) in
     let made : piece ≡ each b f m rest =
     new ∙ ap (λ n. each b f m (take n (drop (i * b) now))) k ∙ each_take b f m (drop (i * b) now)

@@ -1,7 +1,7 @@
 -- Bytes added to a row, one after the other.
 use Rattle.std.proofs.Common.{◌≡◌, ℕ, zero, suc, ◌+◌, ◌<◌, ◌≤◌, List, [], ◌∷◌, ◌++◌, length, get_or, set, take, drop, min, refl, sym, ap, ◌∙◌, add-one, arith}
 use lib.Bits.{bit_xor}
-use Rattle.std.proofs.lemmas.List.{append-nil, take-append-drop}
+use Rattle.std.proofs.lemmas.List.{take-append-drop}
 use Rattle.ublock.specs.Cipher.{xor}
 
 -- the first i bytes of ys added to those of xs

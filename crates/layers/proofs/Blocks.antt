@@ -1,10 +1,11 @@
 -- A run taken block by block.
-use Rattle.std.proofs.Common.{◌≡◌, ℕ, zero, suc, ◌+◌, ◌*◌, ◌/◌, ◌%◌, ◌<◌, ◌≤◌, List, [], ◌++◌, length, take, drop, refl, sym, ap, ◌∙◌, add-one, arith, append_assoc, length-append, length-drop}
+use Rattle.std.proofs.Common.{◌≡◌, ℕ, zero, suc, ◌+◌, ◌*◌, ◌/◌, ◌%◌, ◌<◌, ◌≤◌, List, [], ◌++◌, length, take, drop, refl, sym, ap, ◌∙◌, add-one, arith, append_assoc, length-drop}
 use Rattle.std.proofs.Math.Nat.{zero-mul, suc-mul}
 use Rattle.std.proofs.lemmas.List.{append-nil, take-append-drop, length-take-le, drop-drop, take_at, drop_at}
 use Rattle.std.proofs.lemmas.Nat.{div-add-mod', mul-le}
 use borrow.Rule.Slice.PartMut.{put_mid}
 use Rattle.cipher.specs.Engines.{each}
+use Rattle.cipher.proofs.EngineRuns.{length-each}
 
 -- f keeps the length of a block of b bytes
 abbrev pub Keeps : ℕ → (List ℕ → List ℕ) → Type 0
@@ -31,14 +32,6 @@ each_more b f (suc n) xs =
     let ys = each b f n (drop b xs) in
     let past : drop (n * b) (drop b xs) ≡ drop (suc n * b) xs = drop-drop (n * b) b xs ∙ ap (λ m. drop m xs) (omega (arith, suc-mul n b)) in
     ap (λ r. y ++ r) (each_more b f n (drop b xs)) ∙ sym (append_assoc y ys (f (take b (drop (n * b) (drop b xs))))) ∙ ap (λ z. (y ++ ys) ++ f (take b z)) past
-
-pub length-each : (b : ℕ) (f : List ℕ → List ℕ) → Keeps b f → (n : ℕ) (xs : List ℕ) → n * b ≤ length xs → length (each b f n xs) ≡ n * b
-unfolding each
-length-each b f keeps zero xs h = sym (zero-mul b)
-length-each b f keeps (suc n) xs h =
-    let first = keeps (take b xs) (length_first b n xs h) in
-    let rest = length-each b f keeps n (drop b xs) (length_rest b n xs h) in
-    omega (arith, suc-mul n b, length-append (f (take b xs)) (each b f n (drop b xs)))
 
 -- g of f, block by block; what follows the blocks does not count
 pub each_each : (b : ℕ) (f g : List ℕ → List ℕ) → Keeps b f → (n : ℕ) (xs past : List ℕ) → n * b ≤ length xs

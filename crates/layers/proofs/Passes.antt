@@ -9,9 +9,10 @@ use Rattle.ublock.proofs.Bytes.{xor_twice}
 use Rattle.cipher.specs.Engines.{Answer, Ran, each, refused, engine_answer}
 use Rattle.cipher.specs.declared.engine.EngineFault.{EngineFault}
 use Rattle.cipher.specs.declared.engine.EngineFault.TheVariants.{RunLength}
+use Rattle.cipher.proofs.EngineRuns.{length-each}
 use Rattle.layers.specs.Layers.{whitened, added_to_blocks}
 use Rattle.layers.proofs.Sums.{keeps_added}
-use Rattle.layers.proofs.Blocks.{Keeps, length-each, each_each, each-each, each_same, whole}
+use Rattle.layers.proofs.Blocks.{Keeps, each_each, each-each, each_same, whole}
 
 -- ---- what an answer's number says
 accepted : (b w n : ℕ) (answer : Answer Unit) → answer.number ≡ cond (refused b w n) 4 0 → answer.number ≡ 0 → refused b w n ≡ false
