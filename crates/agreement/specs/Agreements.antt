@@ -2,7 +2,8 @@
 use Rattle.std.specs.Prelude.{◌≡◌, ℕ, ◌-◌, ◌*◌, ◌/◌, ◌<◌, ◌≤◌, min, Bool, Some, None, List, [], ◌∷◌, length, drop, replicate, get_or, if◌then◌else◌, ◌==◌}
 use Rattle.ublock.specs.Laws.{Block}
 use Rattle.ublock.specs.Parts.{part}
-use Rattle.cipher.specs.Engines.{Answer}
+use Rattle.cipher.specs.Engines.{Answer, OnePermutation}
+use Rattle.modes.specs.Modes.{Mask}
 use Rattle.modes.specs.Sealing.{Scheme, seal_block, joined, blocks, previous}
 use Rattle.beatlog.specs.Refusals.{Call, append, amend, cut, read, refusal}
 use Rattle.beatlog.specs.Calls.{View, State, Begun, Link, Outcome}
@@ -37,6 +38,15 @@ pub record SameMeaning (s t : Scheme) : Type 0 where
   pub first : (v : List ℕ) (i : ℕ) (before : List ℕ) → Block s.size v → Block s.size before → s.first v i before ≡ t.first v i before
   pub last : (v : List ℕ) (i : ℕ) (before : List ℕ) → Block s.size v → Block s.size before → s.last v i before ≡ t.last v i before
   pub start : s.start ≡ t.start
+
+-- over blocks of b bytes both rules give equal masks, for every start block, index and block before
+pub record EqualRules (b : ℕ) (f l f' l' : Mask) : Type 0 where
+  pub first : (v : List ℕ) (i : ℕ) (before : List ℕ) → Block b v → Block b before → f v i before ≡ f' v i before
+  pub last : (v : List ℕ) (i : ℕ) (before : List ℕ) → Block b v → Block b before → l v i before ≡ l' v i before
+
+-- so engines that mean one permutation, as those filled for one variant and key do, and modes of equal rules have one meaning
+abbrev pub MeaningByParts : Scheme → Scheme → Type 0
+MeaningByParts s t = s.size ≡ t.size → OnePermutation s.size s.enc s.dec t.enc t.dec → EqualRules s.size s.first s.last t.first t.last → s.start ≡ t.start → SameMeaning s t
 
 -- a page of L bytes is these readings sealed, each by the rule after the sealed block before it, and then zeros
 pub record HoldsSealed (s : Scheme) (L : ℕ) (readings : List (List ℕ)) (page : List ℕ) : Type 0 where

@@ -4,7 +4,7 @@ ghost use Rattle.std.specs.Prelude.{◌≡◌, ℕ, IfErr, IfOk, List, length, m
 ghost use Rattle.modes.specs.Sealing.{scheme};
 ghost use Rattle.beatlog.specs.Faults.{log_answer};
 ghost use Rattle.beatlog.specs.Refusals.{begin_refusal};
-ghost use Rattle.agreement.specs.Agreements.{Agree, Kept, SameMeaning};
+ghost use Rattle.agreement.specs.Agreements.{Agree, Kept, MeaningByParts, SameMeaning};
 ghost use Rattle.agreement.specs.Played.{Crossed, FoundEqual, RoomFor, bare, call_of, outcome_of};
 ghost use Rattle.agreement.specs.Standing.{standing};
 
@@ -44,8 +44,8 @@ pub struct Report {
 /// Begins a log on the recorder and plays calls on it. Then the bench opens the page into `room` and seals what it found into its
 /// own page, the recorder opens that into `back`, and both pages are compared.
 ///
-/// Whatever is played, the first promise is the agreement of recorder and bench over every list of calls; the others say
-/// that what was played is such a list, and what was found.
+/// Whatever is played, the first promise is the agreement of recorder and bench over every list of calls, and the second which
+/// engines and modes it is of; the others say that what was played is such a list, and what was found.
 pub fn agree<E: Engine + Copy, M: Mode, F: Engine + Copy, N: Mode>(
     recorder: Machine<E, M>,
     bench: Machine<F, N>,
@@ -57,6 +57,7 @@ pub fn agree<E: Engine + Copy, M: Mode, F: Engine + Copy, N: Mode>(
     back: &mut [u8],
 ) -> Result<Report, LogFault>
     ensures agreement { (v : List ℕ) → Agree (scheme E.Engine M.Mode recorder.engine recorder.mode v) (scheme F.Engine N.Mode bench.engine bench.mode v) }
+    ensures meaning_by_parts { (v : List ℕ) → MeaningByParts (scheme E.Engine M.Mode recorder.engine recorder.mode v) (scheme F.Engine N.Mode bench.engine bench.mode v) }
     ensures number { (log_answer result).number ≡ begin_refusal E.block_length (length start.now) (length page.old) }
     ensures all_stays_when_refused { IfErr result (λ _. (page.new ≡ page.old) × (turns.new ≡ turns.old) × (bench_page.new ≡ bench_page.old) × (room.new ≡ room.old) × (back.new ≡ back.old)) }
     ensures arguments_stay { map (λ t. bare t.call) turns.new ≡ map (λ t. bare t.call) turns.old }
