@@ -1,6 +1,7 @@
 //! A line, read.
 
 ghost use Rattle.std.specs.Prelude.{◌≡◌, ◌≤◌, length};
+ghost use Rattle.protocol.specs.Examples.{LinesAsWorked};
 ghost use Rattle.protocol.specs.Fields.{fields};
 ghost use Rattle.protocol.specs.Lines.{command_of, new_of, new_from, append_of, amend_of, cut_of, read_of, show_of, number_alone, FirstBytesSuffice};
 
@@ -9,10 +10,11 @@ use crate::command::{Command, LogCommand, NewLog};
 use crate::fields::{engine, mode, number, only, split};
 
 /// What the line says, if it has the right shape.
-#[tactic(auto, using(crate::proofs::Texts::lines, crate::proofs::Texts::first_bytes_suffice))]
+#[tactic(auto, using(crate::proofs::Texts::lines, crate::proofs::Texts::first_bytes_suffice, crate::proofs::Examples::lines_as_worked))]
 pub fn parse(line: &[u8]) -> Option<Command>
     ensures command { result ≡ command_of line.now }
     ensures first_bytes_suffice { FirstBytesSuffice }
+    ensures lines_as_worked { LinesAsWorked }
 {
     if line.len() > 200 {
         return None;

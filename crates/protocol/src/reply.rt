@@ -1,6 +1,7 @@
 //! An answer, as it is written.
 
 ghost use Rattle.std.specs.Prelude.{◌≡◌, ℕ, List, [], ◌∷◌, ◌++◌, ◌+◌, ◌*◌, ◌<◌, ◌≤◌, length, take, decimal, Option, Some, None, nat_lt, if◌then◌else◌};
+ghost use Rattle.protocol.specs.Examples.{TextsAsWorked};
 ghost use Rattle.protocol.specs.Replies.{number_text, block_text, refusal_text, hex_text, hex_digit, layer_of};
 
 use std::marker::Model;
@@ -49,9 +50,10 @@ impl Reply {
     }
 
     /// That the line of this number was refused, and the number that says why.
-    #[tactic(auto, using(crate::proofs::Written::decimal_short))]
+    #[tactic(auto, using(crate::proofs::Written::decimal_short, crate::proofs::Examples::texts_as_worked))]
     pub fn refusal(line: u64, number: u8) -> Reply
-        ensures { result ≡ refusal_text line number }
+        ensures text { result ≡ refusal_text line number }
+        ensures texts_as_worked { TextsAsWorked }
     {
         let mut reply = Reply::nothing();
         reply.push_all(b"no\t");
