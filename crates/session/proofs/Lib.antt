@@ -7,3 +7,4 @@ mod Lines
 mod Asked
 mod Refused
 mod Shown
+mod Examples

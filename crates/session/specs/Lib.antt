@@ -1,4 +1,5 @@
 pub mod Session
+pub mod Examples
 pub mod Faults
 pub mod Logs
 pub mod Transcripts

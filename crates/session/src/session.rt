@@ -2,6 +2,7 @@
 
 ghost use Rattle.std.specs.Prelude.{◌≡◌};
 ghost use Rattle.session.specs.Faults.{line_answer};
+ghost use Rattle.session.specs.Examples.{SessionAsWorked};
 ghost use Rattle.session.specs.Session.{SessionState, answer, beginning, done};
 ghost use Rattle.session.specs.Transcripts.{EnginesAlike, ReadingsShown, RefusalsTold};
 
@@ -48,13 +49,14 @@ impl Session {
     }
 
     /// Answers a line, of which the first 201 bytes are enough. After line 999,999 it does nothing and answers nothing.
-    #[tactic(auto, using(crate::proofs::Shown::readings_shown, crate::proofs::Shown::refusals_told, crate::proofs::Engines::engines_alike))]
+    #[tactic(auto, using(crate::proofs::Shown::readings_shown, crate::proofs::Shown::refusals_told, crate::proofs::Engines::engines_alike, crate::proofs::Examples::session_as_worked))]
     pub fn answer(&mut self, line: &[u8]) -> Reply
         ensures text { result ≡ (answer (⟦<Session as Shown>⟧.shown self.old) line.now).text }
         ensures state { ⟦<Session as Shown>⟧.shown self.new ≡ (answer (⟦<Session as Shown>⟧.shown self.old) line.now).state }
         ensures readings_shown { ReadingsShown }
         ensures refusals_told { RefusalsTold }
         ensures engines_alike { EnginesAlike }
+        ensures session_as_worked { SessionAsWorked }
     {
         if self.lines >= MAX_LINES {
             return Reply::nothing();
