@@ -1,6 +1,7 @@
 //! The splitter: it takes an input chunk by chunk, and gives line after line.
 
 ghost use Rattle.std.specs.Prelude.{◌≡◌, ℕ, ◌+◌, ◌<◌, ◌≤◌, ◌==◌, ◌||◌, [], ◌∷◌, ◌++◌, List, length, take, IfSome, IsTrue, MatchOption, if◌then◌else◌, option_map};
+ghost use Rattle.lines.specs.Examples.{LinesAsWorked, LimitsHold};
 ghost use Rattle.lines.specs.Lines.{HasRead, after, at_end, beginning, counted, has_last, line_end, lines_ahead, lines_of};
 
 use crate::buffer::{keep, line_feed};
@@ -45,9 +46,12 @@ impl Model for Splitter {
 
 impl Splitter {
     /// A splitter at the beginning of an input.
+    #[tactic(auto, using(crate::proofs::Examples::lines_as_worked, crate::proofs::Examples::limits_hold))]
     pub fn new() -> Splitter
         ensures state { result ≡ beginning }
         ensures lines { HasRead result [] [] }
+        ensures lines_as_worked { LinesAsWorked }
+        ensures limits_hold { LimitsHold }
     {
         Splitter {
             buffer: [0; KEPT],
