@@ -36,6 +36,7 @@ module _ (s : Scheme) (ok : Lawful s) (L L' : ℕ) (ps qs : List (List ℕ)) (ro
     count = (leading ps qs).0;
     of_readings = (leading ps qs).1;
     of_blocks = blocks_lead;
+    number = λ n m answer c. c.number;
     common = λ answer c.
         let b = s.size in
         let zero : answer.number ≡ 0 =

@@ -5,7 +5,7 @@ use Rattle.ublock.specs.Parts.{part}
 use Rattle.cipher.specs.Engines.{Answer, OnePermutation}
 use Rattle.modes.specs.Modes.{Mask}
 use Rattle.modes.specs.Sealing.{Scheme, seal_block, joined, blocks, previous}
-use Rattle.beatlog.specs.Refusals.{Call, append, amend, cut, read, refusal}
+use Rattle.beatlog.specs.Refusals.{Call, append, amend, cut, read, refusal, common_refusal}
 use Rattle.beatlog.specs.Calls.{View, State, Begun, Link, Outcome}
 use Rattle.beatlog.specs.Pages.{Sealed, Opened, Leading, Counted}
 use Rattle.agreement.specs.Standing.{Account, account, accounted, opening, standing, accepted_changes}
@@ -81,6 +81,8 @@ pub record CountAlike (b : ℕ) (page : List ℕ) (readings : List (List ℕ)) (
   pub of_readings : Leading readings readings' count
   pub of_blocks : Leading (blocks b (length readings) page) (blocks b (length readings') page') count
   pub common : (answer : Answer ℕ) → Counted b page (length readings) page' (length readings') answer → answer ≡ answered count
+  -- of any counts, it is refused by the table of refusals
+  pub number : (n m : ℕ) (answer : Answer ℕ) → Counted b page n page' m answer → answer.number ≡ common_refusal b (length page) n (length page') m
 
 -- what a buffer lent to a call holds afterwards: a work buffer zeros, always; a place the reading of its index, if the call is accepted
 abbrev pub given_back : Bool → List (List ℕ) → Call → List ℕ
