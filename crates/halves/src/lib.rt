@@ -2,8 +2,9 @@
 
 #![tactic(auto)]
 
-ghost use Rattle.std.specs.Prelude.{◌≡◌, ◌*◌, length};
+ghost use Rattle.std.specs.Prelude.{◌≡◌, ◌-◌, ◌*◌, length, take, drop, replicate};
 ghost use Rattle.ublock.specs.Cipher.{Layout, block_length, layout128, layout256, permute, substitute};
+ghost use Rattle.words.specs.Pairs.{pair_bytes};
 ghost use Rattle.halves.specs.Halves.{IsUblockLayout, HasPermutations};
 ghost use Rattle.std.proofs.Common.{refl, inl, inr};
 
@@ -85,6 +86,23 @@ impl Half for Pair<Pair<Word>> {
             inverse_right: &[9, 2, 6, 13, 5, 15, 0, 8, 14, 4, 11, 1, 3, 10, 12, 7],
         }
     }
+}
+
+/// The two halves at the front of a row of 32 bytes.
+pub fn split<H: Half>(row: &[u8; 32]) -> Pair<H>
+    ensures { pair_bytes H.bytes result ≡ take (block_length H.layout) row.now }
+{
+    Pair::read(&row[..H::block_len()]).unwrap()
+}
+
+/// A row of 32 bytes with the two halves at its front, and zeros after them.
+pub fn join<H: Half>(halves: Pair<H>) -> [u8; 32]
+    ensures front { take (block_length H.layout) result ≡ pair_bytes H.bytes halves }
+    ensures rest { drop (block_length H.layout) result ≡ replicate (32 - block_length H.layout) 0 }
+{
+    let mut row = [0; 32];
+    halves.write(&mut row[..H::block_len()]);
+    row
 }
 
 /// A left half through the byte permutation PL.

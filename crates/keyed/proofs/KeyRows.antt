@@ -24,11 +24,11 @@ inverse_rounds_agree l rk rk' zero e y = refl
 inverse_rounds_agree l rk rk' (suc r) e y =
     ap (λ k. inverse_rounds l rk r (inverse_round l k y)) (e r (omega arith)) ∙ inverse_rounds_agree l rk rk' r (λ j h. e j (omega arith)) (inverse_round l (rk' r) y)
 
-encipher_agree : (l : Layout) (rk rk' : ℕ → List ℕ) (r : ℕ) → ((j : ℕ) → j ≤ r → rk j ≡ rk' j) → (x : List ℕ) → encipher l rk r x ≡ encipher l rk' r x
+pub encipher_agree : (l : Layout) (rk rk' : ℕ → List ℕ) (r : ℕ) → ((j : ℕ) → j ≤ r → rk j ≡ rk' j) → (x : List ℕ) → encipher l rk r x ≡ encipher l rk' r x
 encipher_agree l rk rk' r e x =
     ap (λ z. xor z (rk r)) (rounds_agree l rk rk' r (λ j h. e j (omega arith)) x) ∙ ap (xor (rounds l rk' r x)) (e r (omega arith))
 
-decipher_agree : (l : Layout) (rk rk' : ℕ → List ℕ) (r : ℕ) → ((j : ℕ) → j ≤ r → rk j ≡ rk' j) → (y : List ℕ) → decipher l rk r y ≡ decipher l rk' r y
+pub decipher_agree : (l : Layout) (rk rk' : ℕ → List ℕ) (r : ℕ) → ((j : ℕ) → j ≤ r → rk j ≡ rk' j) → (y : List ℕ) → decipher l rk r y ≡ decipher l rk' r y
 decipher_agree l rk rk' r e y =
     inverse_rounds_agree l rk rk' r (λ j h. e j (omega arith)) (xor y (rk r)) ∙ ap (λ k. inverse_rounds l rk' r (xor y k)) (e r (omega arith))
 
@@ -40,6 +40,10 @@ kept_more bytes f rows i row h e old =
     below_more _ _
     (λ j g. let ne : j ≢ i = omega arith in rw (map-set bytes rows i row, get_or-set_other) (old j g))
     (rw (map-set bytes rows i row, get_or-set_same) e)
+
+pub kept_other : {R : Type 0} (bytes : R → List ℕ) (rows : List R) (i k : ℕ) (row : R) → k ≢ i
+    → slice_index_or (map bytes (slice_set rows i row)) k [] ≡ slice_index_or (map bytes rows) k []
+kept_other bytes rows i k row ne = rw (map-set bytes rows i row, get_or-set_other) refl
 
 -- ---- what rows of registers mean
 -- the key's part of row j is the register of the key after j steps
@@ -53,7 +57,7 @@ key_of_row l v key row same held j h =
     ap (λ k. take (block_length k) (row j)) (sym same) ∙ sym (take-take (block_length p.layout) (key_length p) (row j) (bounded v).block_fits)
     ∙ ap (take (block_length p.layout)) (held j h)
 
-means : (l : Layout) (v : Variant) (key : List ℕ) (rk : ℕ → List ℕ) → (parameters v).layout ≡ l → ((j : ℕ) → j ≤ (parameters v).round_count → rk j ≡ RK (parameters v) key j)
+pub means : (l : Layout) (v : Variant) (key : List ℕ) (rk : ℕ → List ℕ) → (parameters v).layout ≡ l → ((j : ℕ) → j ≤ (parameters v).round_count → rk j ≡ RK (parameters v) key j)
     → (x : List ℕ) → (encipher l rk (parameters v).round_count x ≡ E (parameters v) key x) × (decipher l rk (parameters v).round_count x ≡ D (parameters v) key x)
 means l v key rk same agree x =
     let p = parameters v in (

@@ -1,5 +1,5 @@
 mod RowFacts
 mod RoundFacts
 pub mod Runs
-mod KeyRows
-mod Layouts
+pub mod KeyRows
+pub mod Layouts

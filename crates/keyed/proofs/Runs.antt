@@ -1,13 +1,13 @@
 -- Runs of blocks, each replaced by its image.
 use Rattle.std.specs.Prelude.{◌≡◌, ℕ, zero, suc, ◌+◌, ◌-◌, ◌*◌, ◌/◌, ◌%◌, ◌<◌, ◌≤◌, false, List, [], ◌∷◌, ◌++◌, length, take, drop, Some, refl}
 use Rattle.std.proofs.Common.{sym, ap, ◌∙◌, ⊎_elim, arith}
-use Rattle.std.proofs.Math.Nat.{div-add-mod, mul-le-mul_right, le_of_mul-le-mul_right}
+use Rattle.std.proofs.Math.Nat.{zero-mod, zero-div, div-add-mod, mul-le-mul_right, le_of_mul-le-mul_right}
 use Rattle.std.proofs.lemmas.List.{drop-drop, length-drop, take-append-drop}
 use Rattle.std.proofs.lemmas.Bool.Decides.{nat_tests}
 use Rattle.cipher.specs.Engines.{Shape, Ran, refused, each}
 use Rattle.ublock.specs.Parts.{part}
 
-length_pos : (b w : ℕ) → Shape b w → 0 < b
+pub length_pos : (b w : ℕ) → Shape b w → 0 < b
 length_pos b w s = ⊎_elim (λ e. omega arith) (λ e. omega arith) s.length_of_block
 
 part-drop : (b i : ℕ) (xs : List ℕ) → part b i (drop b xs) ≡ part b (suc i) xs
@@ -31,11 +31,22 @@ each_of_parts b g (suc n) run after e f parts =
     (λ i h. part-drop b i after ∙ parts (suc i) (omega arith) ∙ ap g (sym (part-drop b i run))) in
     sym (take-append-drop b after) ∙ ap (λ x. x ++ drop b after) first ∙ ap (λ y. g (take b run) ++ y) rest
 
+accepted : (b w n : ℕ) → n % b ≡ 0 → n ≤ w * b → refused b w n ≡ false
+accepted b w n e h = grind (arith, nat_tests)
+
 whole_blocks : (b w n : ℕ) → refused b w n ≡ false → n % b ≡ 0
 whole_blocks b w n h = grind (arith, nat_tests)
 
 few_blocks : (b w n : ℕ) → refused b w n ≡ false → n ≤ w * b
 few_blocks b w n h = grind (arith, nat_tests)
+
+-- a run of no block stays as it is
+pub ran_none : (b w : ℕ) (g : List ℕ → List ℕ) (run : List ℕ) → length run ≡ 0 → Ran b w g run run (record { value = Some tt; number = 0 })
+unfolding each
+ran_none b w g [] e =
+    let fine = accepted b w 0 (zero-mod b) (omega arith) in
+    record { number = rw fine; run = ap (λ n. each b g n []) (sym (zero-div b)) ∙ rw fine }
+ran_none b w g (x ∷ xs) e = absurd (omega arith)
 
 -- a run that is loaded into lanes, of which each takes its g, and stored again
 pub ran_lanes : (b w : ℕ) (g : List ℕ → List ℕ) (run after : List ℕ) (before now : ℕ → List ℕ) → Shape b w → refused b w (length run) ≡ false

@@ -40,7 +40,7 @@ impl<R: KeyRow, B: Bundle<R>> Keyed<B, R> {
         let start = Register::load(variant, key).ok_or(KeyFault::KeyLength)?;
         Ok(Keyed {
             variant,
-            rows: key_rows(&start.rows()),
+            rows: key_rows(&start.rows(), start.variant.rounds()),
             bundle: PhantomData,
         })
     }
@@ -50,6 +50,9 @@ impl<R: KeyRow, B: Bundle<R>> Keyed<B, R> {
     pub fn state_after(&self, count: usize, run: &mut [u8]) -> Result<(), EngineFault>
         ensures { Ran (block_length B.layout) B.lane_count (rounds B.layout (row_key R.key_bytes B.layout self.now.rows) (min count (parameters self.now.variant).round_count)) run.old run.new (engine_answer result) }
     {
+        if run.is_empty() {
+            return Ok(());
+        }
         let bundle = B::load(run).ok_or(EngineFault::RunLength)?;
         self.rounds(count.min(self.variant.rounds()), bundle)
             .store(run);
@@ -123,25 +126,34 @@ impl<R: KeyRow, B: Bundle<R>> Engine for Keyed<B, R> {
     }
 
     fn encipher(&self, run: &mut [u8]) -> Result<(), EngineFault> {
+        if run.is_empty() {
+            return Ok(());
+        }
         let bundle = B::load(run).ok_or(EngineFault::RunLength)?;
         self.enciphered(bundle).store(run);
         Ok(())
     }
 
     fn decipher(&self, run: &mut [u8]) -> Result<(), EngineFault> {
+        if run.is_empty() {
+            return Ok(());
+        }
         let bundle = B::load(run).ok_or(EngineFault::RunLength)?;
         self.deciphered(bundle).store(run);
         Ok(())
     }
 }
 
-// The rows in the form that the engine keeps.
-fn key_rows<R: KeyRow>(rows: &[Row; 25]) -> [R; 25]
+// The rows in the form that the engine keeps. Those past the last round key's are the first again, and are not made anew.
+fn key_rows<R: KeyRow>(rows: &[Row; 25], last: usize) -> [R; 25]
+    requires { (j : ℕ) → last < j → j < 25 → row_at rows.now j ≡ row_at rows.now 0 }
     ensures { (j : ℕ) → j < 25 → slice_index_or (map R.key_bytes result) j [] ≡ row_at rows.now j }
 {
     let mut kept = [R::of(&rows[0]); 25];
     for (j, row) in kept.iter_mut().enumerate() {
-        *row = R::of(&rows[j]);
+        if j <= last {
+            *row = R::of(&rows[j]);
+        }
     }
     kept
 }

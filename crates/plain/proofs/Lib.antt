@@ -1,3 +1,3 @@
-mod RoundFacts
-mod Layouts
+pub mod RoundFacts
+pub mod Layouts
 mod Permuted

@@ -1,5 +1,5 @@
 -- Bytes permuted and added.
-use Rattle.std.specs.Prelude.{◌≡◌, ℕ, zero, suc, ◌+◌, List, [], ◌∷◌, ◌++◌, length, take, drop, bit_xor, slice_index, refl}
+use Rattle.std.specs.Prelude.{◌≡◌, ℕ, zero, suc, ◌+◌, ◌*◌, List, [], ◌∷◌, ◌++◌, length, take, drop, bit_xor, slice_index, refl}
 use Rattle.std.proofs.Common.{T, ltb, ltb→lt, map, sym, ap, subst, ◌∙◌, arith}
 use Rattle.std.specs.Simd.Lanes.{all_below}
 use Rattle.ublock.proofs.Check.{both}
@@ -8,7 +8,8 @@ use Rattle.ublock.specs.Cipher.{Layout, S, S_inverse, on_nibbles, substitute, xo
 use Rattle.ublock.specs.Laws.{Invertible}
 use Rattle.ublock.proofs.Bytes.{xor-append, permute_back}
 use Rattle.ublock.proofs.Rounds.{round_of}
-use Rattle.words.specs.Words.{halves}
+use Rattle.words.specs.Words.{halves, words}
+use Rattle.words.proofs.Numbers.{words_append}
 use Rattle.plain.specs.Unpermuted.{permuted_halves, row_of}
 use Rattle.plain.proofs.RoundFacts.{inverse_round_from}
 
@@ -97,9 +98,25 @@ front_block l ok a b xs ys la e =
     ∙ sym (take_at front (drop (block_length l) ys) (block_length l) long)
 
 -- a row whose key is written at the front of xs
-pub row_kept : (l : Layout) (a b key xs ys : List ℕ) → length a ≡ l.half → permuted_halves l a b ≡ key → take (block_length l) xs ≡ a ++ b → key ≡ take (block_length l) ys
+row_kept : (l : Layout) (a b key xs ys : List ℕ) → length a ≡ l.half → permuted_halves l a b ≡ key → take (block_length l) xs ≡ a ++ b → key ≡ take (block_length l) ys
     → row_of l xs ys ≡ ys
 row_kept l a b key xs ys la is ex ek =
     ap (λ z. permuted_halves l z (take l.half (drop l.half xs)) ++ drop (block_length l) ys) (sym (first_of l.half a b xs la (sym ex)))
     ∙ ap (λ z. permuted_halves l a z ++ drop (block_length l) ys) (sym (second_of l.half a b xs la (sym ex)))
     ∙ ap (λ z. z ++ drop (block_length l) ys) (is ∙ ek) ∙ take-append-drop (block_length l) ys
+
+-- the same, where xs goes on as ys does
+pub row_kept_whole : (l : Layout) (a b key xs ys : List ℕ) → length a ≡ l.half → permuted_halves l a b ≡ key → take (block_length l) xs ≡ a ++ b → key ≡ take (block_length l) ys
+    → drop (block_length l) xs ≡ drop (block_length l) ys → row_of l xs xs ≡ ys
+row_kept_whole l a b key xs ys la is ex ek er =
+    ap (λ z. permuted_halves l (take l.half xs) (take l.half (drop l.half xs)) ++ z) er ∙ row_kept l a b key xs ys la is ex ek
+
+-- ---- numbers that begin with those of a block
+pub halves_long : (l : Layout) (a b : List ℕ) (count : ℕ) → length a ≡ count * 4 → length b ≡ count * 4 → l.half ≡ count * 4 → length (a ++ b) ≡ block_length l
+halves_long l a b count la lb sized = length-append a b ∙ omega (arith, la, lb, sized)
+
+pub numbers_front : (n : ℕ) (front rest block : List ℕ) → words front ≡ block → length block ≡ n → take n (words (front ++ rest)) ≡ block
+numbers_front n front rest block e long = ap (take n) (words_append front rest ∙ ap (λ z. z ++ words rest) e) ∙ take_at block (words rest) n long
+
+pub numbers_rest : (n : ℕ) (front rest block : List ℕ) → words front ≡ block → length block ≡ n → drop n (words (front ++ rest)) ≡ words rest
+numbers_rest n front rest block e long = ap (drop n) (words_append front rest ∙ ap (λ z. z ++ words rest) e) ∙ drop_at block (words rest) n long

@@ -3,8 +3,7 @@
 use Rattle.std.proofs.Common.{ℕ, List, ap, inl, inr, ⊎_elim, arith}
 use Rattle.ublock.specs.Cipher.{Layout, block_length}
 use Rattle.ublock.specs.Laws.{Bytes}
-use Rattle.ublock.proofs.Bytes.{bounded-permute, bytes-append, bytes-drop, bytes-take, bytes_from}
-use Rattle.schedule.specs.declared.row.Row.{Row}
+use Rattle.ublock.proofs.Bytes.{bounded-permute, bytes-append, bytes-drop, bytes-take}
 use Rattle.words.specs.Words.{words}
 use Rattle.words.proofs.Numbers.{words_bytes}
 use Rattle.plain.specs.Unpermuted.{row_of}
@@ -20,9 +19,9 @@ one_lane_shape l p = record {
 }
 
 -- a row of bytes
-pub row_of_bytes : (l : Layout) (numbers : List ℕ) (row : Row) → Bytes (row_of l (words numbers) row.bytes)
-row_of_bytes l numbers row =
+pub row_of_bytes : (l : Layout) (numbers : List ℕ) → Bytes (row_of l (words numbers) (words numbers))
+row_of_bytes l numbers =
     let bytes = words_bytes numbers in
     bytes-append _ _
     (bytes-append _ _ (bounded-permute 256 (omega arith) l.PL _ (bytes-take l.half _ bytes)) (bounded-permute 256 (omega arith) l.PR _ (bytes-take l.half _ (bytes-drop l.half _ bytes))))
-    (bytes-drop (block_length l) row.bytes (bytes_from row.bytes row.of_bytes))
+    (bytes-drop (block_length l) _ bytes)

@@ -1,8 +1,8 @@
 //! Rounds of a block in halves that are still to go through the byte permutations. So a round permutes the bytes and looks them
 //! up in one, and the inverse round need not undo the permutations first.
 
-ghost use Rattle.std.specs.Prelude.{◌≡◌};
-ghost use Rattle.ublock.specs.Cipher.{round, inverse_round, xor};
+ghost use Rattle.std.specs.Prelude.{◌≡◌, take};
+ghost use Rattle.ublock.specs.Cipher.{block_length, round, inverse_round, xor};
 ghost use Rattle.words.specs.Pairs.{pair_bytes};
 ghost use Rattle.plain.specs.Unpermuted.{block_of};
 
@@ -31,6 +31,19 @@ pub(crate) fn unpermuted<H: Half>(block: Pair<H>) -> Pair<H>
     Pair {
         first: unpermute_left(block.first),
         second: unpermute_right(block.second),
+    }
+}
+
+/// The halves of which the block at the front of a row is made by the byte permutations: its bytes are taken from where the row has
+/// them.
+pub(crate) fn unpermuted_front<H: Half>(row: &[u8; 32]) -> Pair<H>
+    ensures { block_of H.layout H.bytes result ≡ take (block_length H.layout) row.now }
+{
+    let places = H::permutations();
+    let (left, right) = row[..H::block_len()].split_at(H::block_len() / 2);
+    Pair {
+        first: H::gather(left, places.inverse_left).unwrap(),
+        second: H::gather(right, places.inverse_right).unwrap(),
     }
 }
 

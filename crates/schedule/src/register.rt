@@ -37,7 +37,8 @@ impl Register {
         ensures bytes { result.bytes ≡ padded (key_step (parameters self.variant).PK (parameters self.variant).quarter (slice_index RC taken) (take (key_length (parameters self.variant)) self.bytes)) }
     {
         let quarter = self.quarter_len();
-        let front = self.permuted_front();
+        let mut front = [0; 16];
+        self.permute_front(&mut front);
         let constant = padded(&round_constant(taken).to_be_bytes());
         let (k0, k1) = front[..quarter * 2].split_at(quarter);
         let (k2, k3) = self.bytes[quarter * 2..quarter * 4].split_at(quarter);
@@ -72,8 +73,7 @@ impl Register {
     fn row(self) -> Row
         ensures { result.bytes ≡ self.bytes }
     {
-        let bytes = self.bytes;
-        Row { bytes }
+        Row::of(self.bytes)
     }
 
     // A quarter of the register in bytes.
@@ -84,26 +84,16 @@ impl Register {
         self.variant.key_len() / 4
     }
 
-    // Nibble i of the register, a byte's high nibble first; 0 past its end.
-    fn nibble(self, i: u8) -> u8
-        ensures value { result ≡ slice_index (nibbles self.bytes) i }
-        ensures small { result < 16 }
-    {
-        let byte = self.bytes.get(usize::from(i / 2)).copied().unwrap_or(0);
-        if i % 2 == 0 { byte / 16 } else { byte % 16 }
-    }
-
-    // The first two quarters, with their nibbles permuted.
-    fn permuted_front(self) -> [u8; 16]
+    // Writes the first two quarters, with their nibbles permuted, over the front of a place. Written there, since a result would be
+    // copied before it is read.
+    fn permute_front(self, front: &mut [u8; 16])
         ensures { let p = parameters self.variant in
-            take (p.quarter + p.quarter) result ≡ paired (permute p.PK (nibbles self.bytes)) }
+            take (p.quarter + p.quarter) front.new ≡ paired (permute p.PK (nibbles self.bytes)) }
     {
         let sources = self.variant.nibble_permutation();
-        let mut front = [0; 16];
         for (j, pair) in sources.chunks_exact(2).enumerate() {
-            front[j] = self.nibble(pair[0]) * 16 + self.nibble(pair[1]);
+            front[j] = nibble(&self.bytes, pair[0]) * 16 + nibble(&self.bytes, pair[1]);
         }
-        front
     }
 }
 
@@ -115,4 +105,14 @@ pub fn padded(bytes: &[u8]) -> [u8; 32]
     let mut all = [0; 32];
     all[..len].copy_from_slice(&bytes[..len]);
     all
+}
+
+// Nibble i of a row of bytes, a byte's high nibble first; 0 past its end. The row is lent: a register by value is copied for each
+// nibble.
+fn nibble(bytes: &[u8], i: u8) -> u8
+    ensures value { result ≡ slice_index (nibbles bytes.now) i }
+    ensures small { result < 16 }
+{
+    let byte = bytes.get(usize::from(i / 2)).copied().unwrap_or(0);
+    if i % 2 == 0 { byte / 16 } else { byte % 16 }
 }

@@ -1,20 +1,26 @@
-use Rattle.std.proofs.Common.{◌≡◌, ◌+◌, ◌/◌, [], ◌∷◌, ◌++◌, length, take, drop, ap, ◌∙◌, arith, rules, length-append}
-use Rattle.std.proofs.lemmas.List.{take_at}
-use Rattle.ublock.specs.Cipher.{block_length}
-use Rattle.words.specs.Pairs.{pair_bytes}
-use Rattle.words.specs.Words.{words}
-use Rattle.words.proofs.Numbers.{words_append}
+use Rattle.std.proofs.Common.{◌≡◌, ◌+◌, ◌-◌, length, drop, ap, ◌∙◌, arith, rules}
+use Rattle.std.proofs.lemmas.List.{take_all, length-drop}
+use Rattle.plain.proofs.Permuted.{numbers_front, numbers_rest, halves_long}
 use Rattle.plain.proofs.key_halves.numbers_of.Goals as goal
 
-pub returns : goal.returns
-returns g c =
-    let zeros = 0 ∷ 0 ∷ 0 ∷ 0 ∷ 0 ∷ 0 ∷ 0 ∷ 0 ∷ [] in
+pub returns-in-Some-clause-front : goal.returns-in-Some-clause-front
+returns-in-Some-clause-front g c =
     let halves = c.args.halves in
-    let bytes = pair_bytes g.H.Pieces.bytes halves in
-    let row = c.write_numbers.new.row in
-    let rest = drop (c.block_len.result / 4) zeros in
     let whole = g.met.H.Pieces.whole in
-    let long : length bytes ≡ block_length g.H.Half.layout =
-    length-append (g.H.Pieces.bytes halves.first) (g.H.Pieces.bytes halves.second) ∙ omega (arith, (whole halves.first).long, (whole halves.second).long, g.met.H.Half.sized) in
-    let room : length (take (c.block_len.result / 4) zeros) ≡ g.H.Pieces.count + g.H.Pieces.count = search rules in
-    ap (take (block_length g.H.Half.layout)) (words_append row rest ∙ ap (λ z. z ++ words rest) (c.write_numbers.ensures.written room)) ∙ take_at bytes (words rest) _ long
+    let long = halves_long g.H.Half.layout _ _ g.H.Pieces.count (whole halves.first).long (whole halves.second).long g.met.H.Half.sized in
+    let room : length c.split_at_mut-front.result.0.now ≡ g.H.Pieces.count + g.H.Pieces.count = search rules in
+    numbers_front _ c.write_numbers.new.row c.write_numbers-in-Some.new.row _ (c.write_numbers.ensures.written room) long
+
+pub returns-in-Some-clause-rest : goal.returns-in-Some-clause-rest
+returns-in-Some-clause-rest g c =
+    let halves = c.args.halves in
+    let whole = g.met.H.Pieces.whole in
+    let n = c.block_len-2.result in
+    let row = c.args.row.now in
+    let long = halves_long g.H.Half.layout _ _ g.H.Pieces.count (whole halves.first).long (whole halves.second).long g.met.H.Half.sized in
+    let long_row : length row ≡ 32 = search rules in
+    let room : length c.split_at_mut-front.result.0.now ≡ g.H.Pieces.count + g.H.Pieces.count = search rules in
+    let past : length c.split_at_mut-front.result.1.now ≡ g.H.Pieces.count + g.H.Pieces.count = search rules in
+    numbers_rest _ c.write_numbers.new.row c.write_numbers-in-Some.new.row _ (c.write_numbers.ensures.written room) long
+    ∙ c.write_numbers-in-Some.ensures.written past ∙ c.in-Some.ensures.value
+    ∙ take_all (32 - n) (drop n row) (omega (arith, length-drop n row, long_row)) ∙ ap (λ k. drop k row) c.block_len-2.ensures

@@ -1,9 +1,12 @@
-use Rattle.std.proofs.Common.{◌≡◌, ℕ, List, [], map, slice_index_or, arith}
+use Rattle.std.proofs.Common.{◌≡◌, ℕ, List, [], map, slice_index_or, sym, ◌∙◌, arith, rules}
 use Rattle.ublock.specs.Cipher.{block_length}
 use Rattle.ublock.specs.Variants.{parameters}
 use Rattle.keyed.proofs.KeyRows.{filled_number, filled_means, filled_keys}
 use Rattle.keyed.proofs.Layouts.{layout_by_length}
 use Rattle.keyed.proofs.engine.Keyed.fill.Goals as goal
+
+pub key_rows-requires : goal.key_rows-requires
+key_rows-requires g c = (search rules, λ j past h. c.rows.ensures.later j (omega (arith, c.rounds.ensures)) h ∙ sym (c.rows.ensures.steps 0 (omega arith)))
 
 pub returns : goal.returns
 returns g c =

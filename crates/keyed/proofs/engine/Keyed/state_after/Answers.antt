@@ -3,8 +3,13 @@ use Rattle.ublock.specs.Cipher.{block_length, rounds}
 use Rattle.ublock.specs.Variants.{parameters}
 use Rattle.cipher.specs.Engines.{refused}
 use Rattle.keyed.specs.RoundKeys.{row_key}
-use Rattle.keyed.proofs.Runs.{ran_lanes}
+use Rattle.keyed.proofs.Runs.{ran_none, ran_lanes}
 use Rattle.keyed.proofs.engine.Keyed.state_after.Goals as goal
+
+pub returns-then-is_empty : goal.returns-then-is_empty
+returns-then-is_empty g c =
+    let none : length c.args.run.now ≡ 0 = search rules in
+    ran_none _ _ _ c.args.run.now none
 
 pub returns : goal.returns
 returns g c =

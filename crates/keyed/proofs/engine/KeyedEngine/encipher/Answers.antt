@@ -2,8 +2,13 @@ use Rattle.std.proofs.Common.{◌≡◌, false, length, rules}
 use Rattle.ublock.specs.Cipher.{block_length}
 use Rattle.cipher.specs.Engines.{refused}
 use Rattle.keyed.specs.RoundKeys.{keyed_E}
-use Rattle.keyed.proofs.Runs.{ran_lanes}
+use Rattle.keyed.proofs.Runs.{ran_none, ran_lanes}
 use Rattle.keyed.proofs.engine.KeyedEngine.encipher.Goals as goal
+
+pub returns-then-is_empty : goal.returns-then-is_empty
+returns-then-is_empty g c =
+    let none : length c.args.run.now ≡ 0 = search rules in
+    ran_none _ _ _ c.args.run.now none
 
 pub returns : goal.returns
 returns g c =

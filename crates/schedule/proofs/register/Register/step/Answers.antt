@@ -46,7 +46,7 @@ returns-clause-bytes c =
     let done : c.loop-j.j ≡ q = omega arith in
     let written = written_all q k0 k1 k2 k3 rc c.quarter_len-quarter.ensures.small c.split_at.ensures.front_len long1 c.split_at-2.ensures.front_len long3 c.loop-j.next
     (subst (λ n. Written q n c.loop-j.next (quarters k0 k1 k2 k3 rc)) done c.loop-j.invariant) in
-    let cut = quarters_cut q c.permuted_front-front.result bytes k0 k1 k2 k3 rc c.split_at.ensures.front c.split_at.ensures.back c.split_at-2.ensures.front c.split_at-2.ensures.back in
+    let cut = quarters_cut q c.permute_front.new.front bytes k0 k1 k2 k3 rc c.split_at.ensures.front c.split_at.ensures.back c.split_at-2.ensures.front c.split_at-2.ensures.back in
     let front : permute p.PK (nibbles bytes) ≡ permute p.PK (nibbles (take (p.quarter + p.quarter) (take (p.quarter * 4) bytes))) =
     sym (ap (λ xs. permute p.PK (nibbles xs)) (take-take (p.quarter + p.quarter) (p.quarter * 4) bytes (omega arith))
     ∙ permute-nibbles-take (p.quarter + p.quarter) p.PK bytes (λ i h. omega (arith, bounds.PK_within i (omega arith)))) in

@@ -3,7 +3,7 @@ use Rattle.std.proofs.lemmas.List.{take_more_set, append_assoc, length-append, l
 use Rattle.ublock.specs.Cipher.{nibbles, paired, permute}
 use Rattle.ublock.specs.Variants.{parameters}
 use Rattle.ublock.proofs.VariantFacts.{bounded}
-use Rattle.schedule.proofs.register.Register.permuted_front.Goals as goal
+use Rattle.schedule.proofs.register.Register.permute_front.Goals as goal
 
 -- one more byte, from the two sources that are next
 more : (front left rest two ns all : List ℕ) (n v : ℕ) → length two ≡ 2 → left ≡ two ++ rest → n < length front

@@ -1,7 +1,7 @@
 use Rattle.std.proofs.Common.{◌≡◌, ◌+◌, ◌*◌, ◌++◌, length, take}
 use Rattle.ublock.specs.Cipher.{nibbles, paired, permute}
 use Rattle.ublock.specs.Variants.{parameters}
-use Rattle.schedule.proofs.register.Register.permuted_front.Given as goal
+use Rattle.schedule.proofs.register.Register.permute_front.Given as goal
 
 -- the bytes so far, and those that the sources that are left will give, are all of the bytes
 abbrev pub invariant-loop-j : goal.invariant-loop-j

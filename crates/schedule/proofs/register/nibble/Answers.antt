@@ -1,6 +1,6 @@
 use Rattle.std.proofs.Common.{◌≡◌, suc, ◌*◌, ◌/◌, ◌%◌, ap, arith, rules}
 use Rattle.ublock.proofs.Nibbles.{nibbles_high, nibbles_low}
-use Rattle.schedule.proofs.register.Register.nibble.Goals as goal
+use Rattle.schedule.proofs.register.nibble.Goals as goal
 
 pub returns-then-i-eq0-clause-value : goal.returns-then-i-eq0-clause-value
 returns-then-i-eq0-clause-value c =
