@@ -98,7 +98,7 @@ front_block l ok a b xs ys la e =
     ∙ sym (take_at front (drop (block_length l) ys) (block_length l) long)
 
 -- a row whose key is written at the front of xs
-row_kept : (l : Layout) (a b key xs ys : List ℕ) → length a ≡ l.half → permuted_halves l a b ≡ key → take (block_length l) xs ≡ a ++ b → key ≡ take (block_length l) ys
+pub row_kept : (l : Layout) (a b key xs ys : List ℕ) → length a ≡ l.half → permuted_halves l a b ≡ key → take (block_length l) xs ≡ a ++ b → key ≡ take (block_length l) ys
     → row_of l xs ys ≡ ys
 row_kept l a b key xs ys la is ex ek =
     ap (λ z. permuted_halves l z (take l.half (drop l.half xs)) ++ drop (block_length l) ys) (sym (first_of l.half a b xs la (sym ex)))

@@ -1,12 +1,13 @@
 -- The plain engine keeps the laws of an engine. These lemmas stand here since a law that an impl proves may cite no file of its
 -- crate but those of specs/.
-use Rattle.std.proofs.Common.{ℕ, List, ap, inl, inr, ⊎_elim, arith}
+use Rattle.std.proofs.Common.{ℕ, List, take, drop, ap, inl, inr, ⊎_elim, arith}
 use Rattle.ublock.specs.Cipher.{Layout, block_length}
 use Rattle.ublock.specs.Laws.{Bytes}
-use Rattle.ublock.proofs.Bytes.{bounded-permute, bytes-append, bytes-drop, bytes-take}
+use Rattle.ublock.proofs.Bytes.{bounded-permute, bytes-append, bytes-drop, bytes-take, bytes_from}
+use Rattle.schedule.specs.declared.row.Row.{Row}
 use Rattle.words.specs.Words.{words}
 use Rattle.words.proofs.Numbers.{words_bytes}
-use Rattle.plain.specs.Unpermuted.{row_of}
+use Rattle.plain.specs.Unpermuted.{permuted_halves, row_of}
 use Rattle.cipher.specs.Engines.{Shape}
 use Rattle.halves.specs.Halves.{IsUblockLayout}
 
@@ -18,10 +19,18 @@ one_lane_shape l p = record {
   eight_lanes = omega arith;
 }
 
--- a row of bytes
-pub row_of_bytes : (l : Layout) (numbers : List ℕ) → Bytes (row_of l (words numbers) (words numbers))
-row_of_bytes l numbers =
+-- a key's bytes, from the halves at the front of numbers
+key_of_bytes : (l : Layout) (numbers : List ℕ) → Bytes (permuted_halves l (take l.half (words numbers)) (take l.half (drop l.half (words numbers))))
+key_of_bytes l numbers =
     let bytes = words_bytes numbers in
-    bytes-append _ _
-    (bytes-append _ _ (bounded-permute 256 (omega arith) l.PL _ (bytes-take l.half _ bytes)) (bounded-permute 256 (omega arith) l.PR _ (bytes-take l.half _ (bytes-drop l.half _ bytes))))
-    (bytes-drop (block_length l) _ bytes)
+    bytes-append _ _ (bounded-permute 256 (omega arith) l.PL _ (bytes-take l.half _ bytes)) (bounded-permute 256 (omega arith) l.PR _ (bytes-take l.half _ (bytes-drop l.half _ bytes)))
+
+-- a row of bytes
+pub row_of_bytes : (l : Layout) (numbers : List ℕ) (row : Row) → Bytes (row_of l (words numbers) row.bytes)
+row_of_bytes l numbers row = bytes-append _ _ (key_of_bytes l numbers) (bytes-drop (block_length l) row.bytes (bytes_from row.bytes row.of_bytes))
+
+-- a row whose numbers go on past the key
+pub numbers_of_bytes : (l : Layout) (numbers : List ℕ) → Bytes (row_of l (words numbers) (words numbers))
+numbers_of_bytes l numbers =
+    let bytes = words_bytes numbers in
+    bytes-append _ _ (key_of_bytes l numbers) (bytes-drop (block_length l) _ bytes)

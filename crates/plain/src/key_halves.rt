@@ -5,7 +5,7 @@ ghost use Rattle.ublock.specs.Cipher.{block_length};
 ghost use Rattle.words.specs.Pairs.{pair_bytes};
 ghost use Rattle.words.specs.Words.{words};
 ghost use Rattle.plain.specs.Unpermuted.{block_of, row_of};
-ghost use Rattle.plain.specs.Lawful.{row_of_bytes};
+ghost use Rattle.plain.specs.Lawful.{numbers_of_bytes};
 
 use crate::rounds::unpermuted_front;
 use halves::Half;
@@ -26,7 +26,7 @@ pub struct KeyHalves<H> {
 impl<H: Half> KeyRow for KeyHalves<H> {
     ghost key_bytes = { λ key. row_of H.layout (words key.numbers) (words key.numbers) };
 
-    ghost of_bytes = { λ key. row_of_bytes H.layout key.numbers };
+    ghost of_bytes = { λ key. numbers_of_bytes H.layout key.numbers };
 
     fn of(row: &Row) -> KeyHalves<H> {
         KeyHalves {

@@ -87,14 +87,23 @@ fn digit(c: u8) -> anyhow::Result<u8>
     }
 }
 
-// The bytes that pairs of hexadecimal digits write.
+// The bytes that pairs of hexadecimal digits write. Every digit is looked at before there is a place for the bytes, and they are written
+// into it: to push them one by one took longer.
 fn bytes(heap: Global, text: &str) -> anyhow::Result<Vec<u8>> {
-    let mut all = Vec::new(heap);
     for pair in text.as_bytes().chunks_exact(2) {
-        all.push(digit(pair[0])? * 16 + digit(pair[1])?)?;
+        digit(pair[0])?;
+        digit(pair[1])?;
     }
     if text.len() % 2 == 1 {
         return Err(anyhow!("half a byte"));
+    }
+    let mut all = vec![in heap; 0; text.len() / 2]?;
+    for (byte, pair) in all
+        .as_mut_slice()
+        .iter_mut()
+        .zip(text.as_bytes().chunks_exact(2))
+    {
+        *byte = digit(pair[0])? * 16 + digit(pair[1])?;
     }
     Ok(all)
 }
